@@ -1,15 +1,8 @@
 -- The stage that changes nothing, and has no singles.
 use mathlib.Core.List.{List, []}
-use mathlib.Core.Bool.{true, cond}
+use mathlib.Core.Bool.{true}
 use Prim.Native.Nat.{ℕ}
-use lib.Dec.{leb}
-use Rattle.std.specs.declared.option.Option.{Option}
-use Rattle.std.specs.declared.option.Option.the-variants.{Some, None}
-use Rattle.stage.specs.Stage.{Stage}
-
--- more than 4,096 bytes at a place are refused with 12
-abbrev pub too-long : ℕ → Option ℕ
-too-long n = cond (leb n 4096) None (Some 12)
+use Rattle.stage.specs.Stage.{Stage, too-long}
 
 abbrev pub empty-stage : {F : Type 0} → (F → ℕ) → Stage F F
 empty-stage b = record {

@@ -14,8 +14,9 @@ use Rattle.std.specs.declared.option.Option.{Option}
 use Rattle.std.specs.declared.option.Option.the-variants.{Some, None}
 use Rattle.std.specs.declared.result.Result.{Result}
 use Rattle.std.specs.declared.result.Result.the-variants.{Ok, Err}
-use Rattle.form.specs.Refusals.{Refusal, failed}
+use Rattle.form.specs.Refusals.{Refusal, plain, failed, unless}
 use Rattle.stage.specs.Stage.{Bytes, Counted, Stage, Laws, first-false, failing, answered, checked, outcome, at}
+use Rattle.stage.proofs.Refusing.{unless-ok}
 use Rattle.stage.proofs.Undoing.{Did, answered-ok}
 use Rattle.pair.specs.Compose.{or-else, shifted, lifted, seam, both, after}
 
@@ -33,6 +34,29 @@ followed (Err e) r = Err e
 pub neither : {X : Type 0} (a b : Option X) → or-else a b ≡ None → (a ≡ None) × (b ≡ None)
 neither None b e = (refl, e)
 neither (Some n) b e = let z : _≡_ {A = ℕ} 0 1 = cc in absurd (omega arith)
+
+or-none : {X : Type 0} (a : Option X) → or-else a None ≡ a
+or-none None = refl
+or-none (Some n) = refl
+
+-- what two halves tell of a form makes what the pair tells: the inner's refusal comes first
+pub unless-inner : {X Y : Type 0} (a b : Option ℕ) (e : Refusal) (x : X) (r : Result Y Refusal) → Err e ≡ unless a (Ok x) → Err e ≡ unless (or-else a b) r
+unless-inner None b e x r h = let z : _≡_ {A = ℕ} 0 1 = cc in absurd (omega arith)
+unless-inner (Some n) b e x r h = let z : e ≡ plain n = cc in ap Err z
+
+module _ {G H : Type 0} (a : Option ℕ) (b : G → Option ℕ) (g g′ : G) where
+  pub unless-outer : {Y : Type 0} (e : Refusal) (y : H) (r : Result Y Refusal) → Ok g ≡ unless a (Ok g′) → Err e ≡ unless (b g) (Ok y) → Err e ≡ unless (or-else a (b g′)) r
+  unless-outer e y r h k =
+      let p = unless-ok a (Ok g′) g h in
+      let q : g ≡ g′ = let u = p .1 in cc in
+      unless-inner (b g) None e y r k ∙ ap (λ v. unless v r) (or-none (b g) ∙ ap b q ∙ sym (ap (λ v. or-else v (b g′)) (p .0)))
+
+  pub unless-both : (y y′ : H) → Ok g ≡ unless a (Ok g′) → Ok y ≡ unless (b g) (Ok y′) → Ok g ≡ unless (or-else a (b g′)) (Ok g′)
+  unless-both y y′ h k =
+      let p = unless-ok a (Ok g′) g h in
+      let q : g ≡ g′ = let u = p .1 in cc in
+      let n : or-else a (b g′) ≡ None = ap (λ v. or-else v (b g′)) (p .0) ∙ sym (ap b q) ∙ unless-ok (b g) (Ok y′) y k .0 in
+      p .1 ∙ sym (ap (λ v. unless v (Ok g′)) n)
 
 cases-le : (m n : ℕ) → (m ≤ n) ⊎ (n < m)
 cases-le m n = ⊎-elim (λ h. inr h) (λ h. inl h) (cases-lt n m)

@@ -4,8 +4,8 @@ ghost use Prim.Native.Nat.{ℕ, _+_, _-_, _^_, min, _<_};
 ghost use lib.ListN.{length};
 ghost use Rattle.std.specs.declared.result.Result.the-variants.{Ok, Err};
 ghost use Rattle.form.specs.declared.fault.Fault.the-variants.{Checksum};
-ghost use Rattle.form.specs.Refusals.{told, unless};
-ghost use Rattle.pair.specs.Compose.{after, lifted};
+ghost use Rattle.form.specs.Refusals.{refusal, told, unless};
+ghost use Rattle.pair.specs.Compose.{after, shifted, lifted};
 use form::fault::Fault;
 use stage::capability::PartialDecoderCapability;
 use stage::codec::Codec;
@@ -44,13 +44,24 @@ fn last_place<C: Codec>(codec: &C) -> usize
 }
 
 // A failed test's single, counted from the pair's first single on.
+fn renamed(e: Fault, by: usize) -> Fault
+    requires { ⌜ ((k : ℕ) → e ≡ Checksum k → by + k < 2 ^ 64) ⌝ }
+    ensures { λ r. ⌜ refusal r ≡ shifted by (refusal e) ⌝ }
+{
+    match e {
+        Fault::Checksum(k) => Fault::Checksum(by + k),
+        other => other,
+    }
+}
+
+// The inner half's answer as the pair's.
 fn shift(r: Result<usize, Fault>, by: usize) -> Result<usize, Fault>
     requires { ⌜ ((k : ℕ) → r ≡ Err (Checksum k) → by + k < 2 ^ 64) ⌝ }
     ensures { λ s. ⌜ told s ≡ lifted by (told r) ⌝ }
 {
     match r {
-        Err(Fault::Checksum(k)) => Err(Fault::Checksum(by + k)),
-        other => other,
+        Ok(n) => Ok(n),
+        Err(e) => Err(renamed(e, by)),
     }
 }
 

@@ -1,2 +1,3 @@
+pub mod OneSingle
 pub mod Refusing
 pub mod Undoing

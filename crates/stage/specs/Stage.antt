@@ -3,6 +3,7 @@ use mathlib.Core.Path.{_≡_}
 use mathlib.Core.List.{List, [], _∷_}
 use mathlib.Core.Bool.{Bool, true, false, cond}
 use Prim.Native.Nat.{ℕ, zero, suc, _-_, _^_, _≤_, _<_}
+use lib.Dec.{leb}
 use lib.ListN.{length, getD}
 use Rattle.std.specs.declared.option.Option.{Option}
 use Rattle.std.specs.declared.option.Option.the-variants.{Some, None}
@@ -49,6 +50,10 @@ pub record Laws {F G : Type 0} (bF : F → ℕ) (bG : G → ℕ) (s : Stage F G)
   pub whole : (f : F) (x : List ℕ) → s .refusal f ≡ None → length x ≡ bF f → Bytes x → s .undone f 0 (length (s .singles)) (s .encoded f x) ≡ x
   -- an encoding passes every test
   pub passing : (f : F) (k : ℕ) (x : List ℕ) → s .refusal f ≡ None → k < length (s .singles) → length x ≡ bF f → Bytes x → s .passes f k (s .undone f 0 k (s .encoded f x)) ≡ true
+
+-- more than 4,096 bytes at a place are refused with 12
+abbrev pub too-long : ℕ → Option ℕ
+too-long n = cond (leb n 4096) None (Some 12)
 
 -- a count, none where a usize does not hold it
 abbrev pub Counted : ℕ → Option ℕ → Type 0

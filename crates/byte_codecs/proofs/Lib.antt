@@ -1,0 +1,5 @@
+mod Bytewise
+mod Turns
+mod Folds
+mod Laws
+mod Answering

@@ -1,5 +1,1 @@
-mod Bytewise
-mod Turns
-mod Folds
-mod Laws
-mod Answering
+pub mod Choosing

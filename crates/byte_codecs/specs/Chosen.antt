@@ -5,8 +5,8 @@ use Rattle.stage.specs.Single.{single}
 use Rattle.base_codecs.specs.Empty.{empty-stage}
 use Rattle.byte_codecs.specs.declared.byte_codec.ByteCodec.{ByteCodec}
 use Rattle.byte_codecs.specs.declared.byte_codec.ByteCodec.the-variants.{Empty, Shuffle, Fletcher32}
-use Rattle.byte_codecs.specs.Shuffle.{shuffling}
-use Rattle.byte_codecs.specs.Fletcher32.{checksumming}
+use Rattle.shuffle.specs.Shuffle.{shuffling}
+use Rattle.fletcher32.specs.Fletcher32.{checksumming}
 
 abbrev pub chosen-stage : ByteCodec → Stage ℕ ℕ
 chosen-stage Empty = empty-stage (λ n. n)

@@ -2,8 +2,8 @@
 use mathlib.Core.Path.{_≡_}
 use mathlib.Core.List.{List, [], _∷_}
 use Prim.Native.Nat.{ℕ}
-use Rattle.byte_codecs.specs.Shuffle.{shuffling}
-use Rattle.byte_codecs.specs.Fletcher32.{fletcher32, checksumming}
+use Rattle.shuffle.specs.Shuffle.{shuffling}
+use Rattle.fletcher32.specs.Fletcher32.{fletcher32, checksumming}
 
 abbrev two-words : List ℕ
 two-words = 0x00 ∷ 0x01 ∷ 0x00 ∷ 0x02 ∷ []

@@ -1,17 +1,17 @@
 // A byte codec that is chosen at run time.
 ghost use Rattle.byte_codecs.specs.Chosen.{chosen-stage};
-use crate::fletcher32_codec::Fletcher32Codec;
-use crate::fletcher32_codec::Fletcher32Single;
-use crate::shuffle_codec::ShuffleCodec;
-use crate::shuffle_codec::ShuffleSingle;
-use form::fault::Fault;
-use stage::capability::PartialDecoderCapability;
-use stage::codec::Codec;
-use stage::codec::LengthRepresentation;
 use base_codecs::empty::Empty;
 use base_codecs::empty::EmptyCodec;
 use base_codecs::single::Single;
 use base_codecs::single::SingleAlone;
+use fletcher32::fletcher32_codec::Fletcher32Codec;
+use fletcher32::fletcher32_codec::Fletcher32Single;
+use form::fault::Fault;
+use shuffle::shuffle_codec::ShuffleCodec;
+use shuffle::shuffle_codec::ShuffleSingle;
+use stage::capability::PartialDecoderCapability;
+use stage::codec::Codec;
+use stage::codec::LengthRepresentation;
 
 #[derive(Clone, Copy)]
 pub enum ByteCodec {

@@ -1,5 +1,3 @@
-// The byte codecs: lists of bytes to lists of bytes.
+// Byte codecs chosen at run time, and worked figures.
 pub mod byte_codec;
 pub mod figures;
-pub mod fletcher32_codec;
-pub mod shuffle_codec;

@@ -1,3 +1,4 @@
+pub mod Bytewise
 pub mod OneSingle
 pub mod Refusing
 pub mod Undoing

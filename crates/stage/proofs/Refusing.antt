@@ -1,9 +1,11 @@
 -- What an answer says of the refusals that stand before it.
 use mathlib.Core.Path.{_≡_, refl, sym, ap, _∙_}
+use mathlib.Core.List.{List}
 use mathlib.Core.Bool.{Bool, true, false, _&&_}
-use Prim.Native.Nat.{ℕ, _≤_, _<_}
+use Prim.Native.Nat.{ℕ, _≤_}
 use native.Mathlib.Omega.{arith}
 use lib.Dec.{leb}
+use lib.ListN.{take}
 use Rattle.std.proofs.shelf.Tests.{and-parts, leb-true}
 use Rattle.std.specs.declared.option.Option.{Option}
 use Rattle.std.specs.declared.option.Option.the-variants.{Some, None}
@@ -11,7 +13,7 @@ use Rattle.std.specs.declared.result.Result.{Result}
 use Rattle.std.specs.declared.result.Result.the-variants.{Ok, Err}
 use Rattle.form.specs.declared.fault.Fault.{Fault}
 use Rattle.form.specs.Refusals.{Refusal, refusal, plain, told, unless, only-if}
-use Rattle.stage.specs.Calls.{roomy}
+use Rattle.stage.specs.Calls.{roomy, InPlace}
 
 -- an answer came, so nothing refused
 pub unless-ok : {X : Type 0} (o : Option ℕ) (r : Result X Refusal) (x : X) → Ok x ≡ unless o r → (o ≡ None) × (Ok x ≡ r)
@@ -38,3 +40,15 @@ rooms w s x e =
 pub no-room : {X : Type 0} (b : Bool) (x : X) (r : Result X Fault) (e : Fault) → told r ≡ only-if b 14 (Ok x) → r ≡ Err e → (b ≡ false) × (refusal e ≡ plain 14)
 no-room true x r e w q = let z : _≡_ {A = ℕ} 0 1 = cc in absurd (omega arith)
 no-room false x r e w q = (refl, cc)
+
+-- the form is taken and the buffers are long enough, so the count n is answered, with what is in front
+pub in-place : (o : Option ℕ) (b : Bool) (m n : ℕ) (result behind : List ℕ)
+    → _≡_ {A = Result ℕ Refusal} (Ok n) (unless o (Ok m))
+    → _≡_ {A = Result Unit Refusal} (Ok tt) (only-if b 14 (Ok tt))
+    → (n ≡ m → take n behind ≡ result)
+    → InPlace (unless o (only-if b 14 (Ok m))) result behind (Ok n)
+in-place None true m n result behind p q h =
+    let e : n ≡ m = cc in
+    record { answer-is = p; bytes = λ k y. let z : n ≡ k = cc in ap (λ v. take v behind) (sym z) ∙ h e }
+in-place None false m n result behind p q h = let z : _≡_ {A = ℕ} 0 1 = cc in absurd (omega arith)
+in-place (Some k) b m n result behind p q h = let z : _≡_ {A = ℕ} 0 1 = cc in absurd (omega arith)

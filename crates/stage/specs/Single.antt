@@ -1,7 +1,7 @@
 -- A stage of one single coding, and the laws that make it one.
 use mathlib.Core.Path.{_≡_}
 use mathlib.Core.List.{List, [], _∷_}
-use mathlib.Core.Bool.{Bool, true, cond}
+use mathlib.Core.Bool.{Bool, true, false, cond}
 use Prim.Native.Nat.{ℕ, _≤_}
 use lib.Dec.{eqb}
 use lib.ListN.{length}
@@ -9,6 +9,10 @@ use Rattle.std.specs.declared.option.Option.{Option}
 use Rattle.std.specs.declared.option.Option.the-variants.{None}
 use Rattle.stage.specs.declared.capability.PartialDecoderCapability.{PartialDecoderCapability}
 use Rattle.stage.specs.Stage.{Bytes, Stage}
+
+-- neither capability: all of the input is read, and all of it is decoded
+abbrev pub whole-only : PartialDecoderCapability
+whole-only = record { «partial_read» = false; «partial_decode» = false }
 
 pub record Coding (F G : Type 0) : Type 0 where
   pub capability : PartialDecoderCapability

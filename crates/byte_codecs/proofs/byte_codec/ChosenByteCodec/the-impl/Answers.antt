@@ -1,4 +1,4 @@
-use Rattle.byte_codecs.proofs.Laws.{chosen-laws}
+use Rattle.byte_codecs.proofs.Choosing.{chosen-laws}
 use Rattle.byte_codecs.proofs.byte_codec.ChosenByteCodec.the-impl.Needs as need
 
 pub lawful-law : need.lawful-law

@@ -1,5 +1,5 @@
 use lib.ListN.{length}
-use Rattle.byte_codecs.proofs.Answering.{as-empty, as-shuffle, as-fletcher32, undone-by}
+use Rattle.byte_codecs.proofs.Choosing.{as-empty, as-shuffle, as-fletcher32, undone-by}
 use Rattle.byte_codecs.proofs.byte_codec.ChosenByteCodec.undo.Needs as need
 
 pub returns-in-Empty : need.returns-in-Empty

@@ -1,0 +1,2 @@
+// The fletcher32 codec.
+pub mod fletcher32_codec;

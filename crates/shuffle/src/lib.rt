@@ -1,0 +1,2 @@
+// The shuffle codec.
+pub mod shuffle_codec;

@@ -1,0 +1,18 @@
+use mathlib.Core.Path.{_≡_, refl, sym, ap, subst, _∙_}
+use mathlib.Core.List.{[], _∷_, _++_}
+use borrow.Author.Needs.{needs}
+use lib.Chars.{codes}
+use lib.ListN.{length, take}
+use Rattle.std.specs.Of.Vec.{vec-items}
+use Rattle.std.specs.Vec.{made}
+use Rattle.std.specs.Written.{decimal}
+use Rattle.form.specs.Refusals.{refusal, value-of}
+use Rattle.text.specs.Hex.{hex-of}
+use Rattle.chunkctl.specs.Shown.{more-numbers, numbers-text, yes-no, single-text, more-singles, singles-text, at-text, complaint-text, trouble-text, sum-bytes, value-text, outcome-text}
+use Rattle.chunkctl.proofs.Joined.{join, made-join, made-cond, more-step, more-all, front}
+use Rattle.chunkctl.proofs.answer.push_outcome.Needs as need
+
+pub returns-in-Continue-push-text : need.returns-in-Continue-push-text
+returns-in-Continue-push-text c =
+    subst (λ o. made (c .push-value .result) (λ _. vec-items (c .push-value .last .out) ≡ vec-items (c .args .out .now) ++ outcome-text (c .args .output .now) o)) (sym (c .in-Ok .is))
+    (made-join (c .push-value .result) (vec-items (c .args .out .now)) (vec-items (c .push-text .last .out)) (vec-items (c .push-value .last .out)) (codes "ok") _ _ refl (c .in-Continue-push-text .ensures tt) (c .push-value .ensures))

@@ -1,0 +1,4 @@
+pub mod Seats
+pub mod Carried
+pub mod Lines
+pub mod Shown

@@ -62,10 +62,10 @@ pub form-set : (shape : List ℕ) (code : ℕ) (fill : List ℕ) (f : Form) (n m
 form-set shape code fill f n m h en em =
     taken-by (form-refusal shape code fill) (Made shape code fill) _ f (Formed n m) h
     (λ made.
-      let count : n ≡ product shape = en ∙ ap product (made .shape-is) in
-      let size : element-size f ≡ size-of-code code = sym (code-size (f .«data_type»)) ∙ ap size-of-code (made .code-is) in
-      let bytes : m ≡ product shape * size-of-code code = em ∙ (ap (λ s. product s * element-size f) (made .shape-is) ∙ ap (λ k. product shape * k) size) in
-      (cc (count, bytes), (f, refl, made)))
+    let count : n ≡ product shape = en ∙ ap product (made .shape-is) in
+    let size : element-size f ≡ size-of-code code = sym (code-size (f .«data_type»)) ∙ ap size-of-code (made .code-is) in
+    let bytes : m ≡ product shape * size-of-code code = em ∙ (ap (λ s. product s * element-size f) (made .shape-is) ∙ ap (λ k. product shape * k) size) in
+    (cc (count, bytes), (f, refl, made)))
 
 module _ (A : ℕ → ℕ → ℕ → Result ℕ Refusal) (x old items slice out : List ℕ) (w s v u len : ℕ) (filled : items ≡ replicate (length old) 238) (lent : slice ≡ items) (same-w : v ≡ w) (same-s : u ≡ s) (long : length out ≡ length slice) (whole : len ≡ length old) where
   sized : length slice ≡ length old

@@ -52,10 +52,11 @@ seat-more names i d seats c h k s m =
     let more = take-more names i d h in
     let size : length (s .0) ≡ i = named-length (take i names) (s .0) (s .1) ∙ long in
     let place : seats ≡ s .0 ++ replicate (4 - i) Empty = s .2 ∙ ap (λ n. s .0 ++ replicate (4 - n) Empty) long in
-    let next : length (take (i + 1) names) ≡ i + 1 = length-take-le (i + 1) names (omega arith) in
-    (s .0 ++ (c ∷ []),
-     subst (λ ns. AllNamed ns (s .0 ++ (c ∷ []))) (sym more) (named-push (take i names) (s .0) (getD names i d) c (s .1) m),
-     ap (λ xs. set xs i c) place ∙ (seat-set (s .0) i c size k ∙ ap (λ n. (s .0 ++ (c ∷ [])) ++ replicate (4 - n) Empty) (sym next)))
+    let next : length (take (i + 1) names) ≡ i + 1 = length-take-le (i + 1) names (omega arith) in (
+      s .0 ++ (c ∷ []),
+      subst (λ ns. AllNamed ns (s .0 ++ (c ∷ []))) (sym more) (named-push (take i names) (s .0) (getD names i d) c (s .1) m),
+      ap (λ xs. set xs i c) place ∙ (seat-set (s .0) i c size k ∙ ap (λ n. (s .0 ++ (c ∷ [])) ++ replicate (4 - n) Empty) (sym next)),
+    )
 
 pub seat-none : (names : List StageName) → Seated (take 0 names) (replicate 4 Empty)
 seat-none names = ([], tt, refl)

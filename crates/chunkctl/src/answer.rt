@@ -28,8 +28,7 @@ pub enum Answer {
     Sum(u32),
 }
 
-const COMMANDS: &str =
-    " help out work peek form stages singles lengths encode undo sum data";
+const COMMANDS: &str = " help out work peek form stages singles lengths encode undo sum data";
 
 fn push_text(out: &mut Vec<u8>, text: &str) -> Result<(), AllocError>
     ensures { λ r. ⌜ made r (λ _. vec-items (now (out .exit)) ≡ vec-items (now (out .entry)) ++ now (text .entry)) ⌝ }

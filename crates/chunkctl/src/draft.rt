@@ -11,9 +11,9 @@ ghost use Rattle.chunkctl.specs.Seats.{seats-of, Named, add-refusal, names-ref
 use crate::command::StageName;
 use byte_codecs::byte_codec::ByteCodec;
 use fletcher32::fletcher32_codec::Fletcher32Codec;
-use shuffle::shuffle_codec::ShuffleCodec;
 use form::fault::Fault;
 use pair::Pair;
+use shuffle::shuffle_codec::ShuffleCodec;
 
 // Four seats: the first stage in encode order has the innermost, and empty codecs have the outermost.
 pub type Stages = Pair<ByteCodec, Pair<ByteCodec, Pair<ByteCodec, ByteCodec, usize>, usize>, usize>;

@@ -24,9 +24,9 @@ use byte_codecs::byte_codec::ChosenByteCodec;
 use fletcher32::fletcher32_codec::data_before_checksum;
 use fletcher32::fletcher32_codec::h5_checksum_fletcher32;
 use form::array_form::Form;
+use pair::PairCodec;
 use stage::codec::Codec;
 use stage::codec::LengthRepresentation;
-use pair::PairCodec;
 use std::alloc::AllocError;
 use std::alloc::Global;
 

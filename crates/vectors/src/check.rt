@@ -4,11 +4,11 @@ use crate::vector::Vector;
 use byte_codecs::byte_codec::ByteCodec;
 use byte_codecs::byte_codec::ChosenByteCodec;
 use fletcher32::fletcher32_codec::Fletcher32Codec;
-use shuffle::shuffle_codec::ShuffleCodec;
 use form::fault::Fault;
-use stage::codec::LengthRepresentation;
 use pair::Pair;
 use pair::PairCodec;
+use shuffle::shuffle_codec::ShuffleCodec;
+use stage::codec::LengthRepresentation;
 use std::alloc::AllocError;
 use std::alloc::Global;
 

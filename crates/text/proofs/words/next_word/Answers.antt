@@ -19,7 +19,7 @@ split-at-requires-2 c κs = omega (arith, leading-le-length (λ b. not (blank b)
 pub returns : need.returns
 returns c =
     let text : c .split-at .result .1 .now ≡ drop (leading blank (c .args .line .now)) (c .args .line .now) =
-        c .split-at .ensures .back ∙ ap (λ k. drop k (c .args .line .now)) (c .blanks .ensures) in
+    c .split-at .ensures .back ∙ ap (λ k. drop k (c .args .line .now)) (c .blanks .ensures) in
     let whole = sym (c .split-at-2 .ensures .places .0) in
     let some : 0 < length (drop (leading blank (c .args .line .now)) (c .args .line .now)) = simp (sym text) (search needs) in
     let first = past-front blank (c .args .line .now) some in

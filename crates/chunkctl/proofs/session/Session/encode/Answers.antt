@@ -19,7 +19,7 @@ returns-in-Break-count c =
     record {
       form = refl;
       stages = refl;
-      answer = subst (λ o. Encodes o (c .args .input .now) (vec-items (c .args .self .now .output)) (vec-len (c .args .self .now .work)) (vec-len (c .args .self .now .scratch)) (take (vec-len (c .fill .last .self)) (c .encode .last .output ++ drop (length (c .encode .last .output)) (vec-items (c .fill .last .self)))) (c .from-residual .result)) (sym (c .in-Some .is)) called
+      answer = subst (λ o. Encodes o (c .args .input .now) (vec-items (c .args .self .now .output)) (vec-len (c .args .self .now .work)) (vec-len (c .args .self .now .scratch)) (take (vec-len (c .fill .last .self)) (c .encode .last .output ++ drop (length (c .encode .last .output)) (vec-items (c .fill .last .self)))) (c .from-residual .result)) (sym (c .in-Some .is)) called;
     }
 
 pub returns : need.returns
@@ -30,5 +30,5 @@ returns c =
     record {
       form = refl;
       stages = refl;
-      answer = subst (λ o. Encodes o (c .args .input .now) (vec-items (c .args .self .now .output)) (vec-len (c .args .self .now .work)) (vec-len (c .args .self .now .scratch)) (take (vec-len (c .fill .last .self)) (c .encode .last .output ++ drop (length (c .encode .last .output)) (vec-items (c .fill .last .self)))) (Ok (Output (c .in-Continue-count .count)))) (sym (c .in-Some .is)) called
+      answer = subst (λ o. Encodes o (c .args .input .now) (vec-items (c .args .self .now .output)) (vec-len (c .args .self .now .work)) (vec-len (c .args .self .now .scratch)) (take (vec-len (c .fill .last .self)) (c .encode .last .output ++ drop (length (c .encode .last .output)) (vec-items (c .fill .last .self)))) (Ok (Output (c .in-Continue-count .count)))) (sym (c .in-Some .is)) called;
     }

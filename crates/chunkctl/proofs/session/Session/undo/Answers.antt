@@ -19,7 +19,7 @@ returns-in-Break-count c =
     record {
       form = refl;
       stages = refl;
-      answer = subst (λ i. Undoes (c .args .self .now .stages) (c .args .undo .now .decoded) (c .args .undo .now .from) (c .args .undo .now .to) (c .args .undo .now .checks) i (vec-items (c .args .self .now .output)) (vec-len (c .args .self .now .work)) (vec-len (c .args .self .now .scratch)) (take (vec-len (c .fill .last .self)) (c .undo .last .output ++ drop (length (c .undo .last .output)) (vec-items (c .fill .last .self)))) (c .from-residual .result)) (c .as-slice .ensures .value) (subst (λ o. Undoes o (c .args .undo .now .decoded) (c .args .undo .now .from) (c .args .undo .now .to) (c .args .undo .now .checks) (c .as-slice .result .now) (vec-items (c .args .self .now .output)) (vec-len (c .args .self .now .work)) (vec-len (c .args .self .now .scratch)) (take (vec-len (c .fill .last .self)) (c .undo .last .output ++ drop (length (c .undo .last .output)) (vec-items (c .fill .last .self)))) (c .from-residual .result)) (sym (c .in-Some .is)) called)
+      answer = subst (λ i. Undoes (c .args .self .now .stages) (c .args .undo .now .decoded) (c .args .undo .now .from) (c .args .undo .now .to) (c .args .undo .now .checks) i (vec-items (c .args .self .now .output)) (vec-len (c .args .self .now .work)) (vec-len (c .args .self .now .scratch)) (take (vec-len (c .fill .last .self)) (c .undo .last .output ++ drop (length (c .undo .last .output)) (vec-items (c .fill .last .self)))) (c .from-residual .result)) (c .as-slice .ensures .value) (subst (λ o. Undoes o (c .args .undo .now .decoded) (c .args .undo .now .from) (c .args .undo .now .to) (c .args .undo .now .checks) (c .as-slice .result .now) (vec-items (c .args .self .now .output)) (vec-len (c .args .self .now .work)) (vec-len (c .args .self .now .scratch)) (take (vec-len (c .fill .last .self)) (c .undo .last .output ++ drop (length (c .undo .last .output)) (vec-items (c .fill .last .self)))) (c .from-residual .result)) (sym (c .in-Some .is)) called);
     }
 
 pub returns : need.returns
@@ -30,5 +30,5 @@ returns c =
     record {
       form = refl;
       stages = refl;
-      answer = subst (λ i. Undoes (c .args .self .now .stages) (c .args .undo .now .decoded) (c .args .undo .now .from) (c .args .undo .now .to) (c .args .undo .now .checks) i (vec-items (c .args .self .now .output)) (vec-len (c .args .self .now .work)) (vec-len (c .args .self .now .scratch)) (take (vec-len (c .fill .last .self)) (c .undo .last .output ++ drop (length (c .undo .last .output)) (vec-items (c .fill .last .self)))) (Ok (Output (c .in-Continue-count .count)))) (c .as-slice .ensures .value) (subst (λ o. Undoes o (c .args .undo .now .decoded) (c .args .undo .now .from) (c .args .undo .now .to) (c .args .undo .now .checks) (c .as-slice .result .now) (vec-items (c .args .self .now .output)) (vec-len (c .args .self .now .work)) (vec-len (c .args .self .now .scratch)) (take (vec-len (c .fill .last .self)) (c .undo .last .output ++ drop (length (c .undo .last .output)) (vec-items (c .fill .last .self)))) (Ok (Output (c .in-Continue-count .count)))) (sym (c .in-Some .is)) called)
+      answer = subst (λ i. Undoes (c .args .self .now .stages) (c .args .undo .now .decoded) (c .args .undo .now .from) (c .args .undo .now .to) (c .args .undo .now .checks) i (vec-items (c .args .self .now .output)) (vec-len (c .args .self .now .work)) (vec-len (c .args .self .now .scratch)) (take (vec-len (c .fill .last .self)) (c .undo .last .output ++ drop (length (c .undo .last .output)) (vec-items (c .fill .last .self)))) (Ok (Output (c .in-Continue-count .count)))) (c .as-slice .ensures .value) (subst (λ o. Undoes o (c .args .undo .now .decoded) (c .args .undo .now .from) (c .args .undo .now .to) (c .args .undo .now .checks) (c .as-slice .result .now) (vec-items (c .args .self .now .output)) (vec-len (c .args .self .now .work)) (vec-len (c .args .self .now .scratch)) (take (vec-len (c .fill .last .self)) (c .undo .last .output ++ drop (length (c .undo .last .output)) (vec-items (c .fill .last .self)))) (Ok (Output (c .in-Continue-count .count)))) (sym (c .in-Some .is)) called);
     }

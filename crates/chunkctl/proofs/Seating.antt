@@ -12,13 +12,12 @@ use Rattle.std.specs.declared.option.Option.the-variants.{Some, None}
 use Rattle.std.specs.declared.result.Result.{Result}
 use Rattle.std.specs.declared.result.Result.the-variants.{Ok, Err}
 use Rattle.form.specs.declared.fault.Fault.{Fault}
-use Rattle.form.specs.Refusals.{refusal, plain}
 use Rattle.form.specs.Answers.{Answers}
 use Rattle.pair.specs.Compose.{or-else}
 use Rattle.byte_codecs.specs.declared.byte_codec.ByteCodec.{ByteCodec}
 use Rattle.byte_codecs.specs.declared.byte_codec.ByteCodec.the-variants.{Empty}
 use Rattle.chunkctl.specs.declared.command.StageName.{StageName}
-use Rattle.chunkctl.specs.Seats.{Stages, seats-of, Named, AllNamed, add-refusal, names-refusal, Seated}
+use Rattle.chunkctl.specs.Seats.{Stages, Named, AllNamed, add-refusal, names-refusal, Seated}
 
 -- four seats are these four
 pub four : (xs : List ByteCodec) (d : ByteCodec) → length xs ≡ 4 → getD xs 0 d ∷ (getD xs 1 d ∷ (getD xs 2 d ∷ (getD xs 3 d ∷ []))) ≡ xs

@@ -2,8 +2,12 @@
 use mathlib.Core.Path.{_≡_}
 use mathlib.Core.List.{List, _++_}
 use mathlib.Core.Bool.{Bool, true, false}
-use Prim.Native.Nat.{ℕ, _*_}
-use lib.ListN.{length, drop, replicate}
+use Prim.Native.Nat.{ℕ, _-_, _*_, _≤_, _<_}
+use lib.ListN.{length, take, drop, replicate}
+use Rattle.std.specs.Of.Vec.{vec-items, vec-len}
+use Rattle.std.specs.Results.{Cases}
+use Rattle.std.specs.Vec.{refused}
+use Rattle.fletcher32.specs.Fletcher32.{fletcher32}
 use Rattle.std.specs.declared.option.Option.{Option}
 use Rattle.std.specs.declared.option.Option.the-variants.{Some, None}
 use Rattle.std.specs.declared.result.Result.{Result}
@@ -19,7 +23,8 @@ use Rattle.chunkctl.specs.declared.trouble.Trouble.{Trouble}
 use Rattle.chunkctl.specs.declared.trouble.Trouble.the-variants.{Refused, Error}
 use Rattle.chunkctl.specs.declared.trouble.Complaint.the-variants.{NoStages}
 use Rattle.chunkctl.specs.declared.answer.Answer.{Answer}
-use Rattle.chunkctl.specs.declared.answer.Answer.the-variants.{Form as Formed, Output}
+use Rattle.chunkctl.specs.declared.answer.Answer.the-variants.{Done, Commands, Form as Formed, Output, Bytes, Singles as SinglesAre, Lengths as LengthsAre, Sum as SumIs}
+use Rattle.chunkctl.specs.declared.session.Session.{Session}
 use Rattle.chunkctl.specs.declared.command.Command.{Command}
 use Rattle.chunkctl.specs.declared.command.Command.the-variants.{Help, Out, Work, Peek, Form as NewForm, Stages as NewStages, Singles, Lengths, Encode, Undo, Sum, Data}
 use Rattle.chunkctl.specs.declared.command.StageName.{StageName}
@@ -101,3 +106,40 @@ sets-stages (Encode bytes) = false
 sets-stages (Undo u) = false
 sets-stages (Sum bytes) = false
 sets-stages (Data bytes) = false
+
+-- the bytes of an answer that has them
+abbrev pub bytes-of : Answer → Option (List ℕ)
+bytes-of Done = None
+bytes-of Commands = None
+bytes-of (Formed n m) = None
+bytes-of (Output n) = None
+bytes-of (Bytes v) = Some (vec-items v)
+bytes-of (SinglesAre v) = None
+bytes-of (LengthsAre v) = None
+bytes-of (SumIs n) = None
+
+-- all but the last four bytes
+abbrev pub BeforeSum : List ℕ → Result Answer Trouble → Type 0
+BeforeSum bytes (Ok a) = (4 ≤ length bytes) × (bytes-of a ≡ Some (take (length bytes - 4) bytes))
+BeforeSum bytes (Err t) = (length bytes < 4) × IsRefused 13 t
+
+-- what each command leaves of a session s
+abbrev pub Ran : Command → Session → Session → Result Answer Trouble → Type 0
+Ran Help s t r = (r ≡ Ok Commands) × (t ≡ s)
+Ran (Out n) s t r = (t .form ≡ s .form) × (t .stages ≡ s .stages) × Cases r (λ _. vec-items (t .output) ≡ replicate n 238) (λ _. t ≡ s)
+Ran (Work n m) s t r =
+    (t .form ≡ s .form) × (t .stages ≡ s .stages) × Cases r (λ _. (vec-len (t .work) ≡ n) × (vec-len (t .scratch) ≡ m)) (λ _. t ≡ s)
+Ran Peek s t r = (r ≡ Ok (Output (vec-len (s .output)))) × (t ≡ s)
+Ran (NewForm shape code fill) s t r =
+    FormSet (vec-items shape) code (vec-items fill) (t .form) r × refused r (λ _. t ≡ s) × (t .stages ≡ s .stages)
+Ran (NewStages names) s t r = StagesSet (vec-items names) (t .stages) r × refused r (λ _. t ≡ s) × (t .form ≡ s .form)
+Ran Singles s t r = t ≡ s
+Ran (Lengths n) s t r = t ≡ s
+Ran (Encode bytes) s t r =
+    (t .form ≡ s .form) × (t .stages ≡ s .stages) ×
+    Encodes (s .stages) (vec-items bytes) (vec-items (s .output)) (vec-len (s .work)) (vec-len (s .scratch)) (vec-items (t .output)) r
+Ran (Undo u) s t r =
+    (t .form ≡ s .form) × (t .stages ≡ s .stages) ×
+    Undoes (s .stages) (u .decoded) (u .from) (u .to) (u .checks) (vec-items (u .input)) (vec-items (s .output)) (vec-len (s .work)) (vec-len (s .scratch)) (vec-items (t .output)) r
+Ran (Sum bytes) s t r = (r ≡ Ok (SumIs (fletcher32 (vec-items bytes)))) × (t ≡ s)
+Ran (Data bytes) s t r = BeforeSum (vec-items bytes) r × (t ≡ s)

@@ -8,7 +8,7 @@ ghost use Rattle.std.specs.Vec.{refused};
 ghost use Rattle.std.specs.Results.{isOk};
 ghost use Rattle.std.specs.declared.option.Option.the-variants.{Some, None};
 ghost use Rattle.std.specs.declared.result.Result.the-variants.{Ok, Err};
-ghost use Rattle.chunkctl.specs.Carried.{IsError, FormSet, StagesSet, Encodes, Undoes, sets-form, sets-stages};
+ghost use Rattle.chunkctl.specs.Carried.{IsError, FormSet, StagesSet, Encodes, Undoes, BeforeSum, Ran, sets-form, sets-stages};
 use crate::answer::Answer;
 use crate::command::Command;
 use crate::command::StageName;
@@ -27,7 +27,6 @@ use form::array_form::Form;
 use pair::PairCodec;
 use stage::codec::Codec;
 use stage::codec::LengthRepresentation;
-use std::alloc::AllocError;
 use std::alloc::Global;
 
 // What an output buffer is filled with.
@@ -186,6 +185,7 @@ impl Session {
 
     // Carries out a command. Whatever is not accepted leaves the form and the stages as they were.
     pub fn run(&mut self, heap: Global, command: Command) -> Result<Answer, Trouble>
+        ensures ran { λ r. ⌜ Ran command (now (self .entry)) (now (self .exit)) r ⌝ }
         ensures form { λ r. ⌜ ((sets-form command && isOk r) ≡ false → now (self .exit) .form ≡ now (self .entry) .form) ⌝ }
         ensures stages { λ r. ⌜ ((sets-stages command && isOk r) ≡ false → now (self .exit) .stages ≡ now (self .entry) .stages) ⌝ }
     {
@@ -209,7 +209,9 @@ impl Session {
 }
 
 // The bytes before the last four.
-fn before_checksum(mut bytes: Vec<u8>) -> Result<Answer, Trouble> {
+fn before_checksum(mut bytes: Vec<u8>) -> Result<Answer, Trouble>
+    ensures { λ r. ⌜ BeforeSum (vec-items bytes) r ⌝ }
+{
     let count = data_before_checksum(bytes.as_slice())?.len();
     bytes.truncate(count);
     Ok(Answer::Bytes(bytes))

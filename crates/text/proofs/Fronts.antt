@@ -10,7 +10,7 @@ use lib.ListN.{length, getD, drop, take}
 use Rattle.std.proofs.shelf.Lists.{take-rest, take-all}
 use Rattle.std.proofs.shelf.Ways.{tells}
 use Rattle.std.specs.declared.option.Option.the-variants.{Some, None}
-use Rattle.std.proofs.shelf.Sums.{leading-drop-yes, leading-drop-no, leading-drop-all, leading-le-length}
+use Rattle.std.proofs.shelf.Sums.{leading-drop-yes, leading-drop-no, leading-drop-all}
 use Rattle.std.specs.shelf.Lists.{leading}
 
 module _ (p : ℕ → Bool) (xs : List ℕ) (i : ℕ) where

@@ -3,7 +3,6 @@ use check::Buffers;
 use check::agrees;
 use kind::KINDS;
 use kind::Tally;
-use std::alloc::Global;
 use std::io;
 use std::io::BufRead;
 use std::io::BufReader;

@@ -1,15 +1,10 @@
-use mathlib.Core.Path.{_≡_, refl, sym, ap, subst, _∙_}
-use mathlib.Core.List.{[], _∷_, _++_}
-use borrow.Author.Needs.{needs}
+use mathlib.Core.Path.{_≡_, refl, sym, subst}
+use mathlib.Core.List.{_++_}
 use lib.Chars.{codes}
-use lib.ListN.{length, take}
 use Rattle.std.specs.Of.Vec.{vec-items}
 use Rattle.std.specs.Vec.{made}
-use Rattle.std.specs.Written.{decimal}
-use Rattle.form.specs.Refusals.{refusal, value-of}
-use Rattle.text.specs.Hex.{hex-of}
-use Rattle.chunkctl.specs.Shown.{more-numbers, numbers-text, yes-no, single-text, more-singles, singles-text, at-text, complaint-text, trouble-text, sum-bytes, value-text, outcome-text}
-use Rattle.chunkctl.proofs.Joined.{join, made-join, made-cond, more-step, more-all, front}
+use Rattle.chunkctl.specs.Shown.{outcome-text}
+use Rattle.chunkctl.proofs.Joined.{made-join}
 use Rattle.chunkctl.proofs.answer.push_outcome.Needs as need
 
 pub returns-in-Continue-push-text : need.returns-in-Continue-push-text

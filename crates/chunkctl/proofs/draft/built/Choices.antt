@@ -1,6 +1,5 @@
 use mathlib.Core.Path.{_≡_}
-use Prim.Native.Nat.{_≤_}
-use lib.ListN.{take, drop, length}
+use lib.ListN.{take, drop}
 use Rattle.chunkctl.specs.Seats.{Seated, names-refusal}
 use Rattle.chunkctl.proofs.draft.built.Given as given
 

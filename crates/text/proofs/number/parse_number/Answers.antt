@@ -1,5 +1,4 @@
-use mathlib.Core.Path.{sym, _∙_}
-use native.Mathlib.Omega.{arith}
+use mathlib.Core.Path.{_∙_}
 use borrow.Author.Needs.{needs}
 use Rattle.text.proofs.NumberLaws.{refuse-byte, refuse-large, digit-more, digits-all}
 use Rattle.text.proofs.number.parse_number.Needs as need

@@ -2,7 +2,6 @@ use mathlib.Core.Bool.{not}
 use borrow.Author.Needs.{needs}
 use lib.Dec.{eqb}
 use Rattle.text.proofs.Fronts.{front-more, front-stop, front-end}
-use Rattle.text.specs.Words.{blank}
 use Rattle.text.proofs.words.part_len.Needs as need
 
 pub returns-then-b-separator : need.returns-then-b-separator

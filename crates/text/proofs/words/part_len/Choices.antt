@@ -4,7 +4,6 @@ use Prim.Native.Nat.{_+_}
 use lib.Dec.{eqb}
 use lib.ListN.{drop}
 use Rattle.std.specs.shelf.Lists.{leading}
-use Rattle.text.specs.Words.{blank}
 use Rattle.text.proofs.words.part_len.Given as given
 
 abbrev pub Inv-loop-i : given.InvT-loop-i

@@ -1,6 +1,5 @@
 use mathlib.Core.Bool.{not}
 use borrow.Author.Needs.{needs}
-use lib.Dec.{eqb}
 use Rattle.text.proofs.Fronts.{front-more, front-stop, front-end}
 use Rattle.text.specs.Words.{blank}
 use Rattle.text.proofs.words.word_len.Needs as need

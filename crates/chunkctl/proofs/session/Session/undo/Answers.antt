@@ -5,8 +5,8 @@ use lib.ListN.{length, take, drop, replicate}
 use Rattle.std.specs.declared.result.Result.the-variants.{Ok}
 use Rattle.chunkctl.specs.declared.answer.Answer.the-variants.{Output}
 use Rattle.std.specs.Of.Vec.{vec-items, vec-len}
-use Rattle.stage.specs.Calls.{encode-answer, undo-answer}
-use Rattle.chunkctl.specs.Carried.{Encodes, Undoes}
+use Rattle.stage.specs.Calls.{undo-answer}
+use Rattle.chunkctl.specs.Carried.{Undoes}
 use Rattle.chunkctl.specs.Seats.{stage-of}
 use Rattle.chunkctl.proofs.Called.{call-ok, call-err}
 use Rattle.chunkctl.proofs.session.Session.undo.Needs as need

@@ -1,3 +1,5 @@
 // The codecs of no single and of one.
+#![tactic(auto)]
+
 pub mod empty;
 pub mod single;

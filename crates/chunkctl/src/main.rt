@@ -1,4 +1,6 @@
 // A tool that carries out a command for each line of its standard input, and answers it with a line.
+#![tactic(auto)]
+
 ghost use Rattle.std.specs.Prelude.{◌≡◌, ◌≢◌};
 ghost use Rattle.chunkctl.specs.declared.line.Kept.TheVariants.{Whole};
 

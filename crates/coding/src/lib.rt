@@ -1,4 +1,6 @@
 // The calls of any codec from an input into an output, by way of two work buffers.
+#![tactic(auto)]
+
 ghost use Rattle.std.specs.Prelude.{◌≡◌, ◌≤◌, ◌++◌, length, take, drop};
 ghost use Rattle.form.specs.Refusals.{told};
 ghost use Rattle.stage.specs.Stage.{Laws};

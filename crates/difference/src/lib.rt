@@ -1,4 +1,6 @@
 // The difference codec.
+#![tactic(auto)]
+
 pub mod difference_codec;
 mod differences;
 mod elements;

@@ -1,2 +1,4 @@
 // The fletcher32 codec.
+#![tactic(auto)]
+
 pub mod fletcher32_codec;

@@ -1,5 +1,5 @@
 -- Groups on the numbers of a fixed width of bytes.
-use Rattle.std.specs.Prelude.{◌≡◌, ℕ, ◌+◌, ◌-◌, ◌%◌, ◌^◌, ◌<◌, ◌≤◌, bit-xor}
+use Rattle.std.specs.Prelude.{◌≡◌, ℕ, ◌+◌, ◌-◌, ◌%◌, ◌^◌, ◌<◌, ◌≤◌, bit_xor}
 
 -- one to eight bytes
 abbrev pub Narrow : ℕ → Type 0
@@ -31,4 +31,4 @@ modular w = record {
 
 -- exclusive or, bit by bit
 abbrev pub exclusive : ℕ → Operations
-exclusive w = record { width = w; plus = bitXor; less = bit-xor }
+exclusive w = record { width = w; plus = bit_xor; less = bit_xor }

@@ -1,4 +1,6 @@
 // Two codecs, one after the other.
+#![tactic(auto)]
+
 ghost use Rattle.std.specs.Prelude.{◌≡◌, ℕ, ◌+◌, ◌-◌, ◌^◌, ◌<◌, min, length, Ok, Err};
 ghost use Rattle.form.specs.declared.fault.Fault.TheVariants.{Checksum};
 ghost use Rattle.form.specs.Refusals.{refusal, told, unless};

@@ -1,2 +1,4 @@
 // The shuffle codec.
+#![tactic(auto)]
+
 pub mod shuffle_codec;

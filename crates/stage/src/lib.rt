@@ -1,4 +1,6 @@
 // Coding stages: what a codec means, and the laws that it keeps.
+#![tactic(auto)]
+
 pub mod array_to_array;
 pub mod capability;
 pub mod codec;

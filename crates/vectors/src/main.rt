@@ -1,4 +1,6 @@
 // Compares the library with vectors that other programs made: a vector to a line, `KIND PARAMS INPUT OUTPUT PEER`.
+#![tactic(auto)]
+
 use check::{Buffers, agrees};
 use kind::{KINDS, Tally};
 use std::io;

@@ -5,10 +5,10 @@ use Rattle.form.proofs.Types.{size_within}
 use Rattle.form.proofs.Shapes.{shape_sound, padded}
 use Rattle.form.proofs.forms.padded.Goals as goal
 
-pub invariant-of-result : goal.invariant-of-result
-invariant-of-result c =
-    let s = size_of c.args.data-type in
-    (subst (λ ls. sound ls (length c.args.shape.now) s ≡ true) (sym c.put.ensures) (shape_sound c.args.shape.now _ s c.requires.named c.requires.fits (size_within c.args.data-type).0), tt)
+pub invariant_of-result : goal.invariant_of-result
+invariant_of-result c =
+    let s = size_of c.args.data_type in
+    record { ok = subst (λ ls. sound ls (length c.args.shape.now) s ≡ true) (sym c.put.ensures) (shape_sound c.args.shape.now _ s c.requires.named c.requires.fits (size_within c.args.data_type).0) }
 
 pub returns : goal.returns
 returns c =

@@ -18,4 +18,4 @@ offset-of-requires c =
     }
 
 pub returns : goal.returns
-returns c = c.offset-of.ensures ∙ offset_same (on c.args.of) _ _ c.args.dims (λ a l. c.index-of-at.ensures (on c.args.q a) (c.requires.follows a l).0)
+returns c = c.offset_of.ensures ∙ offset_same (on c.args.of) _ _ c.args.dims (λ a l. c.index-of-at.ensures (on c.args.q a) (c.requires.follows a l).0)

@@ -7,8 +7,8 @@ use Rattle.form.proofs.array_form.Form.elements.Goals as goal
 pub loop-len-init : goal.loop-len-init
 loop-len-init c = one-mul _
 
-pub overflow-mul-n : goal.overflow-mul-n
-overflow-mul-n c =
+pub overflow_mul-n : goal.overflow_mul-n
+overflow_mul-n c =
     let items = c.shape-len-items.result.now in
     let e = c.shape-len-items.ensures.value in
     let z = shape_sized c.args.self.now c.shape-len-items.result.now c.shape-len-items.ensures.value c.shape-len-items.ensures.len in

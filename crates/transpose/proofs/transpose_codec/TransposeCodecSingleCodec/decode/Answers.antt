@@ -14,4 +14,4 @@ gather-front-requires c =
 pub returns : goal.returns
 returns c =
     decoded_in_place c.args.self.now.order c.args.self.now.dims c.args.form.now c.in-ok-new.new (record { ranged = c.args.self.now.ranged; found = c.args.self.now.found }) c.in-ok-new.ensures c.size.result c.elements.result c.size.ensures c.elements.ensures.counted
-    (roomy (length c.args.buf.now) (length c.args.scratch.now)) c.bytes.result c.args.buf.now c.gather-front.new.buf c.bytes.ensures.counted c.in-ok-room.ensures c.gather-front.ensures
+    (roomy (length c.args.buf.now) (length c.args.scratch.now)) c.bytes.result c.args.buf.now c.gather_front.new.buf c.bytes.ensures.counted c.in-ok-room.ensures c.gather_front.ensures

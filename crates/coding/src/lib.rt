@@ -12,7 +12,7 @@ use stage::room::room;
 
 // Every codec keeps the laws of a stage.
 pub fn laws_hold<C: Codec>(codec: &C)
-    ensures { Laws Decoded-as-Representation.weight Encoded-as-Representation.weight (C.Codec.meaning codec.now) }
+    ensures { Laws C.Decoded.Representation.weight C.Encoded.Representation.weight (C.Codec.meaning codec.now) }
 {}
 
 // Copies the first n bytes over the front of another slice.

@@ -3,7 +3,7 @@ use Rattle.form.proofs.Refusals.{told_plain}
 use Rattle.pair.specs.Compose.{shifted}
 use Rattle.pair.proofs.renamed.Goals as goal
 
-pub returns-in-default : goal.returns-in-default
-returns-in-default c =
-    let p = told_plain c.args.e c.in-default.not-Checksum in
+pub returns-in_default : goal.returns-in_default
+returns-in_default c =
+    let p = told_plain c.args.e c.in_default.not-Checksum in
     p ∙ sym (ap (shifted c.args.by) p)

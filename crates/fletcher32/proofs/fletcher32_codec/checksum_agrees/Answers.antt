@@ -9,7 +9,7 @@ returns c =
     let n = c.args.n in
     let w = c.args.bytes.now in
     let z : n - 0 ≡ n = omega arith in
-    let e : c.from-le-bytes-stored.result ≡ loaded (drop n (take (n + 4) w)) = c.from-le-bytes-stored.ensures ∙ sym (loaded_after w n) in
+    let e : c.from_le_bytes-stored.result ≡ loaded (drop n (take (n + 4) w)) = c.from_le_bytes-stored.ensures ∙ sym (loaded_after w n) in
     let f : c.h5_checksum_fletcher32.result ≡ fletcher32 (take n (take (n + 4) w)) =
     c.h5_checksum_fletcher32.ensures ∙ ap (λ k. fletcher32 (take k w)) z ∙ ap fletcher32 (sym (take-take n (n + 4) w (omega arith)))
     in

@@ -6,11 +6,11 @@ use Rattle.shuffle.proofs.shuffle_codec.turn.Goals as goal
 pub bounds-src-i : goal.bounds-src-i
 bounds-src-i c = let h = inside c.loop-i.i c.args.cols c.loop-j.j c.args.rows c.loop-i-test.true c.loop-j-test.true in omega arith
 
-pub overflow-mul-dst-in-loop-j : goal.overflow-mul-dst-in-loop-j
-overflow-mul-dst-in-loop-j c = let h = mul-add-lt c.loop-j.j c.args.rows c.loop-i.i c.args.cols c.loop-j-test.true c.loop-i-test.true in search rules
+pub overflow_mul-dst-in-loop-j : goal.overflow_mul-dst-in-loop-j
+overflow_mul-dst-in-loop-j c = let h = mul-add-lt c.loop-j.j c.args.rows c.loop-i.i c.args.cols c.loop-j-test.true c.loop-i-test.true in search rules
 
-pub overflow-add-dst-in-loop-j : goal.overflow-add-dst-in-loop-j
-overflow-add-dst-in-loop-j c = let h = mul-add-lt c.loop-j.j c.args.rows c.loop-i.i c.args.cols c.loop-j-test.true c.loop-i-test.true in search rules
+pub overflow_add-dst-in-loop-j : goal.overflow_add-dst-in-loop-j
+overflow_add-dst-in-loop-j c = let h = mul-add-lt c.loop-j.j c.args.rows c.loop-i.i c.args.cols c.loop-j-test.true c.loop-i-test.true in search rules
 
 pub bounds-dst-j : goal.bounds-dst-j
 bounds-dst-j c = let h = mul-add-lt c.loop-j.j c.args.rows c.loop-i.i c.args.cols c.loop-j-test.true c.loop-i-test.true in omega arith

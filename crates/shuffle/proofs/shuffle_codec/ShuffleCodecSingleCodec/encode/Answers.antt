@@ -6,6 +6,6 @@ use Rattle.shuffle.proofs.shuffle_codec.ShuffleCodecSingleCodec.encode.Goals as 
 
 pub returns : goal.returns
 returns c =
-    in_place (uneven c.args.self.now.elementsize c.args.form.now) (roomy (length c.args.buf.now) (length c.args.scratch.now)) c.args.form.now c.in-ok-n.n _ c.turn_front.new.buf
-    c.in-ok-n.ensures c.in-ok-room.ensures
+    in_place (uneven c.args.self.now.elementsize c.args.form.now) (roomy (length c.args.buf.now) (length c.args.scratch.now)) c.args.form.now c.in_ok-n.n _ c.turn_front.new.buf
+    c.in_ok-n.ensures c.in_ok-room.ensures
     (λ q. c.turn_front.ensures ∙ ap (λ k. turned (k / c.args.self.now.elementsize) c.args.self.now.elementsize (take k c.args.buf.now)) q)

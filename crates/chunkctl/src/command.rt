@@ -86,7 +86,7 @@ fn parse_size(word: &[u8]) -> Result<usize, Complaint> {
 // Lengths joined by x, or none.
 fn parse_shape(heap: Global, word: &[u8]) -> Result<Vec<usize>, Trouble> {
     let mut lengths = Vec::new(heap);
-    if word == b"-" {
+    if word == b"-".as_slice() {
         return Ok(lengths);
     }
     let mut left = Some(word);
@@ -137,7 +137,7 @@ fn parse_stage(word: &[u8]) -> Result<StageName, Complaint> {
 // Stages joined by +, or none.
 fn parse_stages(heap: Global, word: &[u8]) -> Result<Vec<StageName>, Trouble> {
     let mut names = Vec::new(heap);
-    if word == b"-" {
+    if word == b"-".as_slice() {
         return Ok(names);
     }
     let mut left = Some(word);

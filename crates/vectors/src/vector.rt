@@ -47,7 +47,7 @@ fn element_size(params: &[u8]) -> Option<usize> {
 
 // `!` says that the peer refuses.
 fn expected(heap: Global, word: &[u8]) -> Result<Option<Option<Vec<u8>>>, AllocError> {
-    if word == b"!" {
+    if word == b"!".as_slice() {
         return Ok(Some(None));
     }
     match parse_hex(heap, word)? {

@@ -5,5 +5,5 @@ use Rattle.chunkctl.proofs.answer.push_trouble.Goals as goal
 
 pub returns-in-ok-push-text : goal.returns-in-ok-push-text
 returns-in-ok-push-text c =
-    subst (λ t. IfOk c.push-text_in-Error.result (λ _. vec_items c.push-text_in-Error.new.out ≡ vec_items c.args.out.now ++ trouble_text t)) (sym c.in-Error.is)
-    (made_join c.push-text_in-Error.result (vec_items c.args.out.now) (vec_items c.push_text.new.out) (vec_items c.push-text_in-Error.new.out) (codes "error: ") _ _ c.text.ensures c.in-ok-push-text.ensures c.push-text_in-Error.ensures)
+    subst (λ t. IfOk c.push_text-in-Error.result (λ _. vec_items c.push_text-in-Error.new.out ≡ vec_items c.args.out.now ++ trouble_text t)) (sym c.in-Error.is)
+    (made_join c.push_text-in-Error.result (vec_items c.args.out.now) (vec_items c.push_text.new.out) (vec_items c.push_text-in-Error.new.out) (codes "error: ") _ _ c.text.ensures c.in-ok-push-text.ensures c.push_text-in-Error.ensures)

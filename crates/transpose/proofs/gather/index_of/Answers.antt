@@ -5,13 +5,13 @@ use Rattle.stage.proofs.Gathers.{positive}
 use Rattle.axes.proofs.Loops.{peeled_at, peeled_more}
 use Rattle.transpose.proofs.gather.index_of.Goals as goal
 
-pub nonzero-rem-at : goal.nonzero-rem-at
-nonzero-rem-at c =
+pub nonzero_rem-at : goal.nonzero_rem-at
+nonzero_rem-at c =
     let p = peeled_at (on c.args.lengths) c.args.dims c.args.n (on c.loop-a.at) c.loop-a.rest c.loop-a.a c.loop-a-test.true c.loop-a.invariant.2 in
     positive (on c.args.lengths (c.loop-a.a - 1)) (count (on c.args.lengths) (c.loop-a.a - 1)) c.loop-a.rest p.within
 
-pub nonzero-div-rest : goal.nonzero-div-rest
-nonzero-div-rest c =
+pub nonzero_div-rest : goal.nonzero_div-rest
+nonzero_div-rest c =
     let p = peeled_at (on c.args.lengths) c.args.dims c.args.n (on c.loop-a.at) c.loop-a.rest c.loop-a.a c.loop-a-test.true c.loop-a.invariant.2 in
     positive (on c.args.lengths (c.loop-a.a - 1)) (count (on c.args.lengths) (c.loop-a.a - 1)) c.loop-a.rest p.within
 

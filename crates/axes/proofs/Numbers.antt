@@ -4,7 +4,7 @@ use Rattle.std.proofs.lemmas.Nat.{div-mul-add, mod-mul-add, mul-le, div_below, m
 use Rattle.std.proofs.lemmas.Bool.{cond-true, cond-false, eq-eqb, ne_eqb, cases_eq}
 use Rattle.form.specs.Shapes.{count}
 use Rattle.stage.proofs.Gathers.{positive, inside}
-use Rattle.axes.specs.Axes.{offset, index, Within, Indexed, Numbered}
+use Rattle.axes.specs.Axes.{offset, index, Indexed, Numbered}
 
 pub count_same : (f g : ℕ → ℕ) (r : ℕ) → ((a : ℕ) → a < r → f a ≡ g a) → count f r ≡ count g r
 count_same f g zero h = refl

@@ -1,9 +1,9 @@
 -- Elements under permuted axes: where each comes from, and back.
-use Rattle.std.proofs.Common.{◌≡◌, ℕ, zero, suc, ◌<◌, ◌≤◌, eqb, sym, ap, ◌∙◌, subst, arith}
+use Rattle.std.proofs.Common.{◌≡◌, ℕ, zero, suc, ◌<◌, ◌≤◌, eqb, ap, ◌∙◌, subst, arith}
 use mathlib.Core.Path.{fun_ext}
 use Rattle.std.proofs.lemmas.Bool.{cond_both}
 use Rattle.form.specs.Shapes.{count}
-use Rattle.axes.specs.Axes.{offset, index, place, seat, Follows}
+use Rattle.axes.specs.Axes.{index, place, seat, Follows}
 use Rattle.axes.proofs.Numbers.{index_below, index-offset, offset-index, offset_below, offset_same}
 
 pub seat_valid : (of by q : ℕ → ℕ) (r n a : ℕ) → Follows of by q r → n < count by r → a < r → index by r n (q a) < of a

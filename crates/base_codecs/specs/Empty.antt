@@ -1,5 +1,5 @@
 -- The stage that changes nothing, and has no singles.
-use Rattle.std.specs.Prelude.{ℕ, true, List, []}
+use Rattle.std.specs.Prelude.{ℕ, true, []}
 use Rattle.stage.specs.Stage.{Stage, too_long}
 
 abbrev pub empty_stage : {F : Type 0} → (F → ℕ) → Stage F F

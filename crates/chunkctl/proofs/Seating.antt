@@ -8,7 +8,7 @@ use Rattle.pair.specs.Compose.{or_else}
 use Rattle.byte_codecs.specs.declared.byte_codec.ByteCodec.{ByteCodec}
 use Rattle.byte_codecs.specs.declared.byte_codec.ByteCodec.TheVariants.{Empty}
 use Rattle.chunkctl.specs.declared.command.StageName.{StageName}
-use Rattle.chunkctl.specs.Seats.{Stages, Named, AllNamed, add_refusal, names_refusal, Seated}
+use Rattle.chunkctl.specs.Seats.{Named, AllNamed, add_refusal, names_refusal, Seated}
 
 -- four seats are these four
 pub four : (xs : List ByteCodec) (d : ByteCodec) → length xs ≡ 4 → get_or xs 0 d ∷ (get_or xs 1 d ∷ (get_or xs 2 d ∷ (get_or xs 3 d ∷ []))) ≡ xs

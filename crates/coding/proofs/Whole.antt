@@ -1,9 +1,9 @@
 -- What the calls from an input into an output answer and write.
-use Rattle.std.proofs.Common.{◌≡◌, ℕ, ◌<◌, ◌≤◌, Bool, true, false, not, ◌&&◌, ◌||◌, eqb, ltb, leb, List, ◌++◌, length, take, drop, None, Ok, Err, Result, sym, refl, ap, ◌∙◌, subst, arith}
+use Rattle.std.proofs.Common.{◌≡◌, ℕ, ◌≤◌, Bool, true, false, not, ◌||◌, eqb, ltb, leb, List, ◌++◌, length, take, None, Ok, Result, sym, refl, ap, ◌∙◌, subst, arith}
 use Rattle.std.proofs.lemmas.Bool.{or_parts, and_from, ltb-false, leb-true, le-leb, eq-eqb, eqb-true, not-false}
 use Rattle.std.proofs.lemmas.List.{take_all, take_at}
 use Rattle.form.specs.declared.fault.Fault.{Fault}
-use Rattle.form.specs.Refusals.{Refusal, told, unless, only_if}
+use Rattle.form.specs.Refusals.{Refusal, told, only_if}
 use Rattle.stage.specs.Stage.{Stage, Laws, outcome, failing, checked}
 use Rattle.stage.specs.Calls.{roomy, forward, coded_answer, size_answer, encode_in_place, encode_answer, undo_answer, Encoded, Undone}
 use Rattle.stage.proofs.Refusing.{unless_ok, only_if_ok}

@@ -1,5 +1,5 @@
 -- The laws of the difference codec, and what it makes of each element.
-use Rattle.std.specs.Prelude.{◌≡◌, ℕ, ◌+◌, ◌*◌, ◌<◌, ◌≤◌, List, length, slice_index, refl}
+use Rattle.std.specs.Prelude.{◌≡◌, ℕ, ◌+◌, ◌*◌, ◌<◌, List, slice_index, refl}
 use Rattle.std.proofs.Common.{sym, ap, subst, ◌∙◌, inl, arith}
 use Rattle.form.specs.declared.array_form.Form.{Form}
 use Rattle.form.specs.declared.data_type.DataType.{DataType}
@@ -7,15 +7,13 @@ use Rattle.form.specs.declared.data_type.DataType.TheVariants.{UInt8, Int8, UInt
 use Rattle.form.specs.Types.{size_of}
 use Rattle.form.specs.Forms.{element_size}
 use Rattle.form.proofs.Shapes.{Facts, facts, positive}
-use Rattle.form.proofs.Types.{size_within}
-use Rattle.stage.specs.Stage.{Bytes}
 use Rattle.stage.specs.Single.{CodingLaws, single}
 use Rattle.stage.specs.Arrays.{element_count, array_bytes, ArrayLaws}
 use Rattle.stage.specs.Elements.{elements}
-use Rattle.groups.specs.Groups.{Operations, GroupLaws, Narrow}
+use Rattle.groups.specs.Groups.{Operations, GroupLaws}
 use Rattle.groups.specs.Modulo.{modular_laws}
 use Rattle.groups.specs.Bitwise.{exclusive_laws}
-use Rattle.difference.specs.Difference.{group_of, differences, sums, differenced, differencing, Different, Differs, Restores}
+use Rattle.difference.specs.Difference.{group_of, differences, sums, differenced, differencing, Differs, Restores}
 use Rattle.difference.specs.ElementBytes.{length-elements, Bytes-bytes}
 use Rattle.difference.specs.Sums.{length-differenced, length-restored, first_of, later_of, elements-differenced, restored-differenced}
 

@@ -1,5 +1,5 @@
 -- The refusals are told apart by number and values.
-use Rattle.std.proofs.Common.{◌≡◌, ℕ, zero, suc, List, [], ◌∷◌, get_or, sym, refl, ap, ◌∙◌, arith}
+use Rattle.std.proofs.Common.{◌≡◌, ℕ, List, [], ◌∷◌, get_or, sym, refl, ap, ◌∙◌}
 use Rattle.form.specs.declared.fault.Fault.{Fault}
 use Rattle.form.specs.declared.fault.Fault.TheVariants.{Shape, DataType, ArraySize, FillValue, CodecOrder, NoRoom, AxisOrder, ElementSize, Dimensions, Endianness, Multiple, TooLong, Length, BufferShort, Checksum, Capacity, Subset, ByteRange, Absent, CellLayout}
 use Rattle.form.specs.Refusals.{Refusal, plain, refusal, Told}

@@ -1,12 +1,11 @@
 -- What the calls of a pair answer, from what the calls of its halves do.
-use Rattle.std.proofs.Common.{◌≡◌, ℕ, ◌+◌, ◌-◌, ◌<◌, ◌≤◌, Bool, true, false, cond, ◌&&◌, leb, ◌⊎◌, List, ◌++◌, length, get_or, take, None, Ok, Err, Result, sym, refl, ap, ◌∙◌, subst, inl, inr, ⊎_elim, arith, length-append}
-use Rattle.std.proofs.lemmas.Bool.{and_parts, and_from, and_cases, leb-true, leb-false, le-leb, lt-leb, cases_Bool, cases_lt}
+use Rattle.std.proofs.Common.{◌≡◌, ℕ, ◌+◌, ◌-◌, ◌<◌, ◌≤◌, Bool, true, false, ◌&&◌, leb, List, ◌++◌, length, None, Ok, Err, Result, sym, refl, ap, ◌∙◌, subst, inl, inr, ⊎_elim, arith, length-append}
+use Rattle.std.proofs.lemmas.Bool.{and_cases, leb-false, lt-leb, cases_lt}
 use Rattle.form.specs.declared.fault.Fault.{Fault}
-use Rattle.form.specs.declared.fault.Fault.TheVariants.{Checksum}
-use Rattle.form.specs.Refusals.{Refusal, refusal, plain, failed, told, unless, only_if}
-use Rattle.stage.specs.Stage.{Stage, Laws, outcome}
-use Rattle.pair.specs.Compose.{shifted, lifted, after}
-use Rattle.stage.specs.Calls.{roomy, forward, size_answer, undo_in_place, InPlace, Undone}
+use Rattle.form.specs.Refusals.{Refusal, refusal, plain, told, unless}
+use Rattle.stage.specs.Stage.{Stage, Laws}
+use Rattle.pair.specs.Compose.{lifted, after}
+use Rattle.stage.specs.Calls.{roomy, forward, size_answer, Undone}
 use Rattle.stage.proofs.Refusing.{unless_ok}
 use Rattle.stage.proofs.Undoing.{Did, Went, nowhere, short, went, places, placed, sized, unsized, went_from, undone_from, room_of}
 use Rattle.pair.specs.Composition.{ri, ro, size_outer, size_inner, done_outer, done_inner, done_failed, done_across}

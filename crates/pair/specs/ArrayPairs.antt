@@ -1,6 +1,6 @@
 -- A pair of stages over arrays keeps what its halves keep.
-use Rattle.std.specs.Prelude.{◌≡◌, ℕ, true, ◌⊎◌, Some, None, Option, nat_lt, refl}
-use Rattle.std.proofs.Common.{◌∙◌, inl, inr}
+use Rattle.std.specs.Prelude.{◌≡◌, ℕ, true, ◌⊎◌, Some, None, Option, nat_lt}
+use Rattle.std.proofs.Common.{◌∙◌}
 use Rattle.std.proofs.lemmas.Bool.{cond_both}
 use Rattle.form.specs.declared.array_form.Form.{Form}
 use Rattle.stage.specs.Stage.{Stage}

@@ -4,11 +4,11 @@ use Rattle.std.proofs.Common.{sym, ap, subst, ◌∙◌, inl, inr, ⊎_elim, ari
 use Rattle.std.specs.Option.{SomeIff}
 use Rattle.std.proofs.lemmas.List.{length-take-le}
 use Rattle.std.proofs.lemmas.Bool.{cond-true, cond-false, le-leb, lt-leb, lt-ltb, le-ltb, cases_lt}
-use Rattle.form.specs.Refusals.{Refusal, plain, failed, unless}
+use Rattle.form.specs.Refusals.{Refusal, plain, unless}
 use Rattle.stage.specs.Stage.{Bytes, Counted, Stage, Laws, first_false, failing, answered, checked, outcome, at}
 use Rattle.stage.proofs.Refusing.{unless_ok}
 use Rattle.stage.proofs.Undoing.{Did, answered_ok}
-use Rattle.pair.specs.Compose.{or_else, shifted, lifted, seam, both, after}
+use Rattle.pair.specs.Compose.{or_else, lifted, after}
 
 -- a number's count from an earlier start
 abbrev pub raised : ℕ → Option ℕ → Option ℕ

@@ -1,5 +1,5 @@
 -- A single coding's laws make a stage's.
-use Rattle.std.proofs.Common.{◌≡◌, ℕ, ◌≤◌, true, cond, eqb, ◌⊎◌, List, length, sym, refl, ap, ◌∙◌, subst, inl, inr, ⊎_elim, arith}
+use Rattle.std.proofs.Common.{◌≡◌, ℕ, ◌≤◌, true, eqb, ◌⊎◌, List, length, sym, refl, ap, ◌∙◌, subst, inl, inr, ⊎_elim, arith}
 use Rattle.std.proofs.lemmas.Bool.{cond-true, cond_both, eq-eqb, cases_eq}
 use Rattle.stage.specs.Stage.{Bytes, Stage, Laws}
 use Rattle.stage.specs.Single.{Coding, CodingLaws, single}

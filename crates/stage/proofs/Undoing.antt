@@ -1,9 +1,9 @@
 -- What undoing in place answers and leaves, by the ways that it can go.
-use Rattle.std.proofs.Common.{◌≡◌, ℕ, zero, suc, ◌+◌, ◌-◌, ◌<◌, ◌≤◌, Bool, true, false, cond, ◌&&◌, leb, List, length, get_or, take, Some, None, Ok, Err, Option, Result, sym, refl, ap, ◌∙◌, subst, arith}
+use Rattle.std.proofs.Common.{◌≡◌, ℕ, zero, suc, ◌+◌, ◌-◌, ◌<◌, ◌≤◌, Bool, true, false, cond, leb, List, length, get_or, take, Some, None, Ok, Err, Option, Result, sym, refl, ap, ◌∙◌, subst, arith}
 use Rattle.std.proofs.lemmas.Bool.{and_parts, and_from, leb-true, le-leb, lt-leb}
 use Rattle.form.specs.declared.fault.Fault.{Fault}
 use Rattle.form.specs.declared.fault.Fault.TheVariants.{Checksum}
-use Rattle.form.specs.Refusals.{Refusal, refusal, plain, failed, told, unless, only_if}
+use Rattle.form.specs.Refusals.{Refusal, plain, failed, told, unless, only_if}
 use Rattle.stage.specs.Stage.{Stage, first_false, failing, checked, answered, outcome}
 use Rattle.stage.specs.Calls.{roomy, forward, size_answer, undo_in_place, InPlace, Undone}
 

@@ -1,5 +1,5 @@
 -- What the calls of a stage answer, and what they leave in each buffer.
-use Rattle.std.specs.Prelude.{◌≡◌, ℕ, Bool, ◌&&◌, List, ◌++◌, length, take, drop, Ok, Err, Option, Result, ◌==◌, nat_le}
+use Rattle.std.specs.Prelude.{◌≡◌, ℕ, Bool, ◌&&◌, List, ◌++◌, length, take, drop, Ok, Err, Result, ◌==◌, nat_le}
 use Rattle.form.specs.declared.fault.Fault.{Fault}
 use Rattle.form.specs.Refusals.{Refusal, told, unless, only_if, or_refused}
 use Rattle.stage.specs.declared.capability.PartialDecoderCapability.{PartialDecoderCapability}

@@ -1,5 +1,5 @@
 -- What encoding and decoding in place leave.
-use Rattle.std.proofs.Common.{◌≡◌, ℕ, ◌*◌, ◌<◌, ◌≤◌, Bool, List, take, None, Ok, Result, sym, refl, ap, ◌∙◌, subst, arith}
+use Rattle.std.proofs.Common.{◌≡◌, ℕ, ◌*◌, ◌<◌, ◌≤◌, Bool, List, take, None, Ok, Result, sym, ap, ◌∙◌, subst}
 use Rattle.form.specs.declared.array_form.Form.{Form}
 use Rattle.form.specs.Forms.{element_size}
 use Rattle.form.specs.Refusals.{Refusal, unless, only_if}

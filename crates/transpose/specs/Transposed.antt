@@ -1,5 +1,5 @@
 -- The laws of the transposition, and where each element goes.
-use Rattle.std.specs.Prelude.{◌≡◌, ℕ, ◌+◌, ◌*◌, ◌<◌, ◌≤◌, Bool, true, false, cond, ◌&&◌, ◌⊎◌, List, Some, None, Ok, Option, Result, ◌==◌, nat_eq, nat_le, nat_lt, slice_index, refl}
+use Rattle.std.specs.Prelude.{◌≡◌, ℕ, ◌+◌, ◌*◌, ◌<◌, Bool, true, false, cond, ◌&&◌, ◌⊎◌, List, Some, None, Ok, Option, Result, ◌==◌, nat_eq, nat_le, nat_lt, slice_index, refl}
 use Rattle.std.proofs.Common.{sym, ap, subst, ◌∙◌, inl, inr, zero-add, arith}
 use Rattle.std.proofs.Math.Bool.{Bool-set}
 use Rattle.std.proofs.lemmas.List.FromFn.{get_or-map-range_with_len}
@@ -12,12 +12,11 @@ use Rattle.form.proofs.Shapes.{Facts, facts}
 use Rattle.stage.specs.Arrays.{element_count, array_bytes, ArrayLaws}
 use Rattle.stage.specs.Gathers.{by_element}
 use Rattle.stage.specs.Single.{CodingLaws, single}
-use Rattle.stage.proofs.Bytewise.{taken}
 use Rattle.stage.proofs.Gathers.{inside, get_or-gathered, element_byte, elements_back, gathering_laws}
-use Rattle.axes.specs.Axes.{offset, place, seat, Follows}
+use Rattle.axes.specs.Axes.{offset, place, Follows}
 use Rattle.axes.proofs.Numbers.{count_same, count_permuted, offset_same, index-offset, offset_below}
 use Rattle.axes.proofs.Seats.{place_below, seat_below, seat_back}
-use Rattle.transpose.specs.Transpose.{Permutes, formed, with_lengths, new_length, new_lengths, source, target, transposing, Turns, Goes}
+use Rattle.transpose.specs.Transpose.{formed, with_lengths, new_length, new_lengths, source, target, transposing, Turns, Goes}
 use Rattle.transpose.specs.Orders.{Ordered, ordered_by}
 
 pub form_facts : (f : Form) → Facts f.lengths f.dims (element_size f)

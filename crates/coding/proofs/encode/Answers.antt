@@ -1,5 +1,4 @@
-use Rattle.std.proofs.Common.{◌≡◌, ◌++◌, length, take, drop, Ok, sym, ap, ◌∙◌, arith}
-use Rattle.stage.specs.Calls.{encode_answer}
+use Rattle.std.proofs.Common.{◌≡◌, ◌++◌, length, take, drop, Ok, ap, ◌∙◌, arith}
 use Rattle.stage.proofs.Refusing.{rooms}
 use Rattle.coding.proofs.Whole.{taken_by, encode_told, encode_front}
 use Rattle.coding.proofs.encode.Goals as goal

@@ -1,7 +1,6 @@
-use Rattle.std.proofs.Common.{◌≡◌, ◌≤◌, ◌++◌, length, take, drop, Ok, Err, sym, refl, ap, ◌∙◌, arith}
+use Rattle.std.proofs.Common.{◌≡◌, ◌++◌, length, drop, Err, sym, refl, ap, ◌∙◌, arith}
 use Rattle.std.proofs.lemmas.Result.{err_from_is_err_and}
 use Rattle.form.specs.Refusals.{told}
-use Rattle.stage.specs.Calls.{written}
 use Rattle.stage.proofs.Refusing.{rooms}
 use Rattle.coding.proofs.Whole.{onward, sized_by, undo_told, undo_count, undo_front}
 use Rattle.coding.proofs.undo.Goals as goal

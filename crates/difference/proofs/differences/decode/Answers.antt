@@ -1,4 +1,4 @@
-use Rattle.std.proofs.Common.{◌≤◌, length, refl, arith}
+use Rattle.std.proofs.Common.{length, refl, arith}
 use Rattle.stage.specs.Elements.{elements}
 use Rattle.difference.specs.Difference.{summed, sums}
 use Rattle.difference.proofs.Loops.{inside, going_start, going_turn, going_all, plus_step, plus_below}

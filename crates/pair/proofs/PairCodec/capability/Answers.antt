@@ -1,4 +1,4 @@
-use Rattle.std.proofs.Common.{◌≡◌, ◌-◌, sym, ap, ◌∙◌, arith}
+use Rattle.std.proofs.Common.{◌-◌, sym, ap, ◌∙◌, arith}
 use Rattle.form.specs.Refusals.{or_refused}
 use Rattle.stage.specs.Stage.{at}
 use Rattle.pair.specs.Composition.{at_left, at_right}

@@ -1,4 +1,4 @@
-use Rattle.std.proofs.Common.{◌≡◌, ℕ, ◌+◌, ◌*◌, ◌<◌, ◌≤◌, sym, ◌∙◌, subst, arith, rules}
+use Rattle.std.proofs.Common.{◌≡◌, ℕ, ◌*◌, ◌<◌, ◌≤◌, sym, subst, arith, rules}
 use Rattle.form.specs.Shapes.{on, count}
 use Rattle.axes.specs.Axes.{seat, Follows}
 use Rattle.axes.proofs.Seats.{seat_below}

@@ -1,4 +1,4 @@
-use Rattle.std.proofs.Common.{◌≡◌, ℕ, ◌<◌, ◌≤◌, length}
+use Rattle.std.proofs.Common.{◌≡◌, ◌≤◌, length}
 use Rattle.axes.proofs.Loops.{Peeled}
 use Rattle.form.specs.Shapes.{on}
 use Rattle.transpose.proofs.gather.index_of.Given as goal

@@ -1,4 +1,4 @@
-use Rattle.std.proofs.Common.{length, Err, sym, ap, ◌∙◌, arith}
+use Rattle.std.proofs.Common.{length, Err, ap, ◌∙◌}
 use Rattle.std.proofs.lemmas.Bool.{or_parts, ltb-false, le-leb}
 use Rattle.std.proofs.lemmas.Result.{err_from_is_err_and}
 use Rattle.form.specs.Refusals.{told}

@@ -1,4 +1,4 @@
-use Rattle.std.proofs.Common.{◌≤◌, length, sym, refl, arith}
+use Rattle.std.proofs.Common.{◌≤◌, length, sym, refl}
 use Rattle.std.proofs.lemmas.Bool.{or_parts, ltb-false}
 use Rattle.form.specs.Shapes.{on}
 use Rattle.transpose.specs.Orders.{permutes_by, permutes_front, permutes_whole}

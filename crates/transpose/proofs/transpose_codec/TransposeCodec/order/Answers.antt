@@ -1,6 +1,5 @@
-use Rattle.std.proofs.Common.{◌≡◌, ◌-◌, take, refl, ap, subst, arith, rules}
+use Rattle.std.proofs.Common.{◌≡◌, ◌-◌, take, ap, arith, rules}
 use Rattle.form.specs.Shapes.{on}
-use Rattle.transpose.specs.Transpose.{Permutes}
 use Rattle.transpose.specs.Orders.{permutes_by, permutes_front}
 use Rattle.transpose.proofs.transpose_codec.TransposeCodec.order.Goals as goal
 

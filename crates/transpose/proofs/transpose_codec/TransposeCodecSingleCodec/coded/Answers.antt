@@ -1,5 +1,4 @@
 use Rattle.std.proofs.Common.{◌≡◌, true, Ok, sym, ap, ◌∙◌, subst}
-use Rattle.std.proofs.lemmas.Bool.{eq-eqb}
 use Rattle.form.specs.Forms.{element_size}
 use Rattle.form.specs.Shapes.{on, sound}
 use Rattle.transpose.specs.Orders.{Ordered}

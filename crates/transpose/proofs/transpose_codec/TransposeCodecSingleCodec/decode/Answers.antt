@@ -1,4 +1,4 @@
-use Rattle.std.proofs.Common.{◌≡◌, length, ◌∙◌, arith}
+use Rattle.std.proofs.Common.{length, arith}
 use Rattle.stage.specs.Calls.{roomy}
 use Rattle.stage.proofs.Refusing.{rooms}
 use Rattle.transpose.proofs.Calls.{ready_home, decoded_in_place}

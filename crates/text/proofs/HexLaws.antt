@@ -3,7 +3,7 @@ use Rattle.std.proofs.Common.{◌≡◌, ℕ, ◌+◌, ◌*◌, ◌/◌, ◌%◌
 use Rattle.std.proofs.lemmas.List.{at_drop_more, append-nil, drop_all}
 use Rattle.std.proofs.lemmas.Bool.Decides.{nat_tests}
 use Rattle.std.specs.Option.{option_map}
-use Rattle.std.specs.List.{AllByRecursion as All}
+use Rattle.std.specs.List.{AllByRecursion}
 use Rattle.text.specs.Hex.{hex_digit, hex_pairs, hex_of, hex_value, byte_of, in_front, hex_bytes, hex_parsed, ReadsBack, OnlyPrinted}
 
 value_digit : (n : ℕ) → n < 16 → hex_value (hex_digit n) ≡ Some n
@@ -12,7 +12,7 @@ value_digit n small = grind (arith, nat_tests)
 digit_value : (c n : ℕ) → hex_value c ≡ Some n → (hex_digit n ≡ c) × (n < 16)
 digit_value c n e = grind (arith, nat_tests)
 
-pairs_back : (bs : List ℕ) → All (λ b. b < 256) bs → hex_bytes (hex_pairs bs) ≡ Some bs
+pairs_back : (bs : List ℕ) → AllByRecursion (λ b. b < 256) bs → hex_bytes (hex_pairs bs) ≡ Some bs
 pairs_back [] h = refl
 pairs_back (b ∷ bs) h =
     let small : b < 256 = h.0 in

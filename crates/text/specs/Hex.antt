@@ -1,6 +1,6 @@
 -- Hexadecimal: how bytes are written, and how they are read.
 use Rattle.std.specs.Prelude.{◌≡◌, ℕ, ◌+◌, ◌-◌, ◌*◌, ◌/◌, ◌%◌, ◌<◌, cond, ◌&&◌, List, [], ◌∷◌, Some, None, Option, ◌==◌, nat_le, nat_lt}
-use Rattle.std.specs.List.{AllByRecursion as All}
+use Rattle.std.specs.List.{AllByRecursion}
 
 -- the digits 0 to 9 and a to f
 abbrev pub hex_digit : ℕ → ℕ
@@ -42,7 +42,7 @@ hex_parsed (c ∷ (d ∷ cs)) = hex_bytes (c ∷ (d ∷ cs))
 
 -- what is written of bytes is read back
 abbrev pub ReadsBack : Type 0
-ReadsBack = (bs : List ℕ) → All (λ b. b < 256) bs → hex_parsed (hex_of bs) ≡ Some bs
+ReadsBack = (bs : List ℕ) → AllByRecursion (λ b. b < 256) bs → hex_parsed (hex_of bs) ≡ Some bs
 
 -- and a word that is read is what is written of those bytes
 abbrev pub OnlyPrinted : Type 0

@@ -1,4 +1,4 @@
-use mathlib.Core.Path.{sym, ap, ◌∙◌}
+use Rattle.std.proofs.Common.{sym, ap, ◌∙◌}
 use Rattle.form.specs.declared.array_form.Form.{Form}
 use Rattle.stage.specs.Stage.{Stage}
 use Rattle.stage.specs.Calls.{coded_answer}

@@ -1,5 +1,4 @@
-use mathlib.Core.Path.{sym, subst}
-use lib.ListN.{length}
+use Rattle.std.proofs.Common.{length, sym, subst}
 use Rattle.form.specs.declared.array_form.Form.{Form}
 use Rattle.stage.specs.Arrays.{array_bytes}
 use Rattle.stage.specs.Stage.{Stage}

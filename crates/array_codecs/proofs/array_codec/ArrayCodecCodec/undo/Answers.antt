@@ -1,4 +1,4 @@
-use lib.ListN.{length}
+use Rattle.std.proofs.Common.{length}
 use Rattle.stage.specs.Arrays.{array_bytes}
 use Rattle.stage.proofs.Undoing.{undone_by}
 use Rattle.array_codecs.specs.Choosing.{as_empty, as_transpose, as_difference}

@@ -17,7 +17,7 @@ length-bytes length-differenced length-differences length-elements length-gather
 length-summed length-sums length-turned little-digits loaded-stored offset-index product-count restored-differenced
 summed-lessened sums-differences turned-turned""".split()
 
-# Names that say more than a dash: what std's word is called now, a fact with its capital, a function of the same name.
+# Names that say more than a dash: what std's word is called now, a fact with its capital.
 OTHER = {
     "getD-gathered": "get_or-gathered",
     "getD-turned": "get_or-turned",

@@ -58,7 +58,9 @@ pub trait Codec {
     fn size(&self, form: &Self::Decoded, place: usize) -> Result<usize, Fault>
         ensures { told result ≡ size_answer (meaning self.now) form.now place };
 
-    // Encodes the first bytes of buf, as many as the form has, where they stand.
+    // Encodes the first bytes of buf, as many as the form has, where they stand. The buffers are two slices: of a struct that
+    // held both, each clause would also have to say that it still holds these two, and one that promised their room would ask
+    // more of callers.
     fn encode(
         &self,
         form: &Self::Decoded,
@@ -67,7 +69,8 @@ pub trait Codec {
     ) -> Result<usize, Fault>
         ensures { Encoded Self.Decoded.Representation.weight (meaning self.now) form.now buf.old buf.new (length scratch.old) result };
 
-    // Undoes the first bytes of buf, as many as there are at the place `from`, up to the place `to`, where they stand.
+    // Undoes the first bytes of buf, as many as there are at the place `from`, up to the place `to`, where they stand. The
+    // places are two numbers and no struct with the checks, since a pair takes them apart and gives its halves others.
     fn undo(
         &self,
         form: &Self::Decoded,

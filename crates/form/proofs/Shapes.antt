@@ -1,62 +1,58 @@
 -- Products of lengths. Assumes nothing.
-use Rattle.std.proofs.Common.{◌≡◌, ℕ, zero, suc, ◌+◌, ◌-◌, ◌*◌, ◌/◌, ◌<◌, ◌≤◌, true, ◌&&◌, leb, List, [], ◌∷◌, ◌++◌, length, get_or, take, drop, replicate, is_some, Some, None, Option, sym, refl, ap, ◌∙◌, subst, mul-le-mul_right, mul_assoc, mul_comm, div-lt_iff_lt-mul, mul-le-mul_left, mul-pos, mul-zero, le-div_iff_mul-le, zero-mul, mul-one, arith, take-suc}
-use Rattle.std.proofs.lemmas.List.{at_drop_more, at_drop_all, take_at, drop_at, drop-replicate, length-append}
-use Rattle.std.proofs.lemmas.Bool.{and_parts, and_from, leb-true, le-leb}
-use Rattle.form.specs.Every.{every}
-use Rattle.form.specs.Shapes.{product, is_shape, Counted, count, on, volume, sound}
+use Rattle.std.proofs.Common.{◌≡◌, ℕ, min, max, zero, suc, ◌*◌, ◌<◌, ◌≤◌, true, leb, List, [], ◌∷◌, ◌++◌, length, take, sym, refl, ap, ◌∙◌, mul-le-mul_right, mul_assoc, mul-le-mul_left, mul-pos, mul-zero, mul-suc, zero-mul, one-mul, mul-one, arith, take-suc}
+use Rattle.std.proofs.lemmas.List.{take_at, length-append}
+use Rattle.std.proofs.lemmas.List.Folds.{fold_along}
+use Rattle.std.proofs.lemmas.Bool.Decides.{nat_tests}
+use Rattle.std.specs.List.{list_all, fold}
+use Rattle.form.specs.Shapes.{product, is_shape, count, on, volume, sound}
 
-pub full_product : (xs : List ℕ) → every (leb 1) xs ≡ true → 0 < product xs
+pub full_product : (xs : List ℕ) → list_all (leb 1) xs ≡ true → 0 < product xs
 full_product [] h = omega arith
-full_product (x ∷ xs) h =
-    let p = and_parts _ _ h in
-    mul-pos (leb-true 1 x p.0) (full_product xs p.1)
+full_product (x ∷ xs) h = let i : list_all (leb 1) xs ≡ true → 0 < product xs = full_product xs in grind (arith, nat_tests, mul-pos)
 
 product_push : (xs : List ℕ) (y : ℕ) → product (xs ++ y ∷ []) ≡ product xs * y
-product_push [] y = mul_comm y 1
-product_push (x ∷ xs) y = ap (λ p. x * p) (product_push xs y) ∙ sym (mul_assoc x (product xs) y)
+product_push [] y = grind arith
+product_push (x ∷ xs) y = let i = product_push xs y in grind (arith, mul_assoc)
 
 -- the product of the first lengths, axis by axis
 pub product-count : (xs : List ℕ) (r : ℕ) → r ≤ length xs → product (take r xs) ≡ count (on xs) r
 product-count xs zero h = refl
-product-count xs (suc r) h =
-    ap product (take-suc xs r 0 (omega arith)) ∙ product_push (take r xs) (get_or xs r 0) ∙ ap (λ p. p * on xs r) (product-count xs r (omega arith))
+product-count xs (suc r) h = rw (take-suc xs r 0 (omega arith), product_push, product-count xs r (omega arith))
 
 pub positive : (a b : ℕ) → 0 < a * b → (0 < a) × (0 < b)
-positive zero b h = absurd (omega (arith, zero-mul b))
-positive (suc a) zero h = absurd (omega (arith, mul-zero (suc a)))
-positive (suc a) (suc b) h = (omega arith, omega arith)
+positive a b h = grind (arith, zero-mul, one-mul, mul-zero)
 
--- n is the product of the first i lengths: times the product of the others it is the product of all
-abbrev pub Multiplied : ℕ → ℕ → List ℕ → Type 0
-Multiplied n i xs = n * product (drop i xs) ≡ product xs
+-- a fold of products is the product
+pub fold-product : (a : ℕ) (xs : List ℕ) → fold (λ n x. n * x) a xs ≡ a * product xs
+fold-product a [] = sym (mul-one a)
+fold-product a (x ∷ xs) = fold-product (a * x) xs ∙ mul_assoc a x (product xs)
 
-pub multiplied_more : (n i : ℕ) (xs : List ℕ) → i < length xs → Multiplied n i xs → Multiplied (n * get_or xs i 0) (i + 1) xs
-multiplied_more n i xs h m =
-    let e : product (drop i xs) ≡ get_or xs i 0 * product (drop (i + 1) xs) = at_drop_more product xs i 0 h in
-    mul_assoc n (get_or xs i 0) (product (drop (i + 1) xs)) ∙ ap (λ p. n * p) (sym e) ∙ m
+min_step : (m b c x : ℕ) → b ≡ min c m → min (b * x) m ≡ min (c * x) m
+min_step m b c zero e = omega (arith, mul-zero b, mul-zero c)
+min_step m b c (suc x) e = grind (arith, mul-suc)
 
-pub multiplied_all : (n i : ℕ) (xs : List ℕ) → length xs ≤ i → Multiplied n i xs → n ≡ product xs
-multiplied_all n i xs h m =
-    let e : product (drop i xs) ≡ 1 = at_drop_all product xs i h in
-    sym (mul-one n) ∙ ap (λ p. n * p) (sym e) ∙ m
+max_step : {A : Type 0} (v : A → ℕ) (b c : ℕ) (x : A) → b ≤ c → b * v x ≤ max c (c * v x)
+max_step v b c x h = grind (arith, mul-le-mul_right)
 
-pub multiplied_within : (n i : ℕ) (xs : List ℕ) → 0 < product xs → Multiplied n i xs → (0 < n) × (n ≤ product xs)
-multiplied_within n i xs h m =
-    let p = positive n (product (drop i xs)) (subst (λ k. 0 < k) (sym m) h) in
-    let l : n * 1 ≤ n * product (drop i xs) = mul-le-mul_left n p.1 in
-    (p.0, omega (arith, mul-one n))
+-- where no number is 0 the product never falls
+fold-rising : (a : ℕ) (xs : List ℕ) → 0 < a * product xs → fold (λ n x. max n (n * x)) a xs ≡ a * product xs
+fold-rising a [] h = sym (mul-one a)
+fold-rising a (x ∷ xs) h =
+    let p = positive a (x * product xs) h in
+    let l : a * 1 ≤ a * x = mul-le-mul_left a (positive x (product xs) p.1).0 in
+    let e : max a (a * x) ≡ a * x = omega (arith, mul-one a) in
+    rw e (fold-rising (a * x) xs (omega (arith, mul_assoc a x (product xs))) ∙ mul_assoc a x (product xs))
 
--- a product past what is left of the limit passes the limit
-pub passes : (P n len size : ℕ) → 0 < size → 0 < n → 4096 / size / n < len → n * len ≤ P → 4096 < P * size
-passes P n len size hs hn lt le =
-    let a : 4096 / size < len * n = (div-lt_iff_lt-mul hn).0 lt in
-    let b : 4096 < len * n * size = (div-lt_iff_lt-mul hs).0 a in
-    let c : n * len * size ≤ P * size = mul-le-mul_right size le in
-    omega (arith, ap (λ k. k * size) (mul_comm n len))
+-- a product of some of the numbers is at most that of all, where none is 0
+pub fold_within : {A : Type 0} (v : A → ℕ) (some : List A) (all : List ℕ) → 0 < product all → fold (λ n x. max n (n * v x)) 1 some ≤ fold (λ n x. max n (n * x)) 1 all → fold (λ n x. n * v x) 1 some ≤ product all
+fold_within v some all p h =
+    let rises = fold_along (λ n x. n * v x) (λ n x. max n (n * v x)) (λ b c. b ≤ c) (max_step v) 1 1 some (omega arith) in
+    omega (arith, one-mul (product all), fold-rising 1 all (omega (arith, one-mul (product all))))
 
--- one within it keeps within the limit
-pub stays : (n len limit : ℕ) → 0 < n → len ≤ limit / n → n * len ≤ limit
-stays n len limit hn le = rw (mul_comm n len) ((le-div_iff_mul-le hn).0 le)
+-- products that stay at a limit once they are past it
+pub fold-saturating : (m a : ℕ) (xs : List ℕ) → a ≤ m → fold (λ n x. min (n * x) m) a xs ≡ min (a * product xs) m
+fold-saturating m a xs h =
+    fold_along (λ n x. min (n * x) m) (λ n x. n * x) (λ b c. b ≡ min c m) (min_step m) a a xs (omega arith) ∙ ap (λ k. min k m) (fold-product a xs)
 
 -- what a sound form keeps
 pub record Facts (lengths : List ℕ) (dims size : ℕ) : Type 0 where
@@ -66,27 +62,11 @@ pub record Facts (lengths : List ℕ) (dims size : ℕ) : Type 0 where
   pub fits : volume lengths dims size ≤ 4096
 
 pub facts : (ls : List ℕ) (d s : ℕ) → sound ls d s ≡ true → Facts ls d s
-facts ls d s h =
-    let p = and_parts _ _ h in
-    let q = and_parts _ _ p.0 in
-    let r = and_parts _ _ p.1 in
-    record { some = leb-true 1 d q.0; few = leb-true d 4 q.1; full = leb-true 1 (volume ls d s) r.0; fits = leb-true (volume ls d s) 4096 r.1 }
-
-pub counted_fits : (shape : List ℕ) (size : ℕ) (o : Option ℕ) → Counted shape size o → is_some o ≡ true → product shape * size ≤ 4096
-counted_fits shape size (Some n) h e = h.1
-counted_fits shape size None h e = let z : ◌≡◌ {A = ℕ} 0 1 = cc in absurd (omega arith)
+facts ls d s h = grind (arith, nat_tests)
 
 -- a shape with other numbers after it is sound
 pub shape_sound : (shape rest : List ℕ) (size : ℕ) → is_shape shape ≡ true → product shape * size ≤ 4096 → 0 < size → sound (shape ++ rest) (length shape) size ≡ true
 shape_sound shape rest size s h z =
-    let p = and_parts (leb 1 (length shape) && leb (length shape) 4) (every (leb 1) shape) s in
-    let e : product shape ≡ count (on (shape ++ rest)) (length shape) = ap product (sym (take_at shape rest (length shape) refl)) ∙ product-count (shape ++ rest) (length shape) (omega (arith, length-append shape rest)) in
-    let v : product shape * size ≡ volume (shape ++ rest) (length shape) size = ap (λ k. k * size) e in
-    let f : 0 < product shape * size = mul-pos (full_product shape p.1) z in
-    let w = volume (shape ++ rest) (length shape) size in
-    and_from _ _ p.0 (and_from _ _ (le-leb 1 w (omega arith)) (le-leb w 4096 (omega arith)))
-
--- numbers written over the front of a list of n equal ones
-pub padded : (n y : ℕ) (xs ys : List ℕ) → ys ≡ xs ++ drop (length xs) (replicate n y) → (take (length xs) ys ≡ xs) × (drop (length xs) ys ≡ replicate (n - length xs) y)
-padded n y xs ys e =
-    (ap (take (length xs)) e ∙ take_at xs _ _ refl, ap (drop (length xs)) e ∙ drop_at xs _ _ refl ∙ drop-replicate (length xs) n y)
+    let e = product-count (shape ++ rest) (length shape) (omega (arith, length-append shape rest)) in
+    let t = take_at shape rest (length shape) refl in
+    grind (arith, nat_tests, full_product, mul-pos)

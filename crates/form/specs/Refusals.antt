@@ -1,5 +1,5 @@
 -- The refusals: each case of the enum by its number and its values.
-use Rattle.std.specs.Prelude.{◌≡◌, ℕ, Bool, cond, List, [], ◌∷◌, Some, None, Ok, Err, Option, Result}
+use Rattle.std.specs.Prelude.{◌≡◌, ℕ, Bool, cond, List, [], ◌∷◌, ◌++◌, Some, None, Ok, Err, codes, decimal, Option, Result}
 use Rattle.form.specs.declared.fault.Fault.{Fault}
 use Rattle.form.specs.declared.fault.Fault.TheVariants.{Shape, DataType, ArraySize, FillValue, CodecOrder, NoRoom, AxisOrder, ElementSize, Dimensions, Endianness, Multiple, TooLong, Length, BufferShort, Checksum, Capacity, Subset, ByteRange, Absent, CellLayout}
 
@@ -45,6 +45,15 @@ first (k ∷ ks) = Some k
 
 abbrev pub value_of : Refusal → Option ℕ
 value_of r = first r.values
+
+-- the single that a failed test names, if it does
+abbrev pub at_text : Option ℕ → List ℕ
+at_text None = []
+at_text (Some k) = codes " at " ++ decimal k
+
+-- a refusal as it is printed
+abbrev pub fault_text : Fault → List ℕ
+fault_text e = codes "refused " ++ (decimal (refusal e).number ++ at_text (value_of (refusal e)))
 
 -- a call's answer, with the refusal by its number and values
 abbrev pub told : {X : Type 0} → Result X Fault → Result X Refusal

@@ -1,6 +1,6 @@
 -- Shapes: how many elements and bytes an array has. Lengths are a list, or a function of the axis.
-use Rattle.std.specs.Prelude.{◌≡◌, ℕ, zero, suc, ◌*◌, ◌<◌, ◌≤◌, Bool, ◌&&◌, leb, List, [], ◌∷◌, length, Some, None, Option, nat_le, slice_index}
-use Rattle.form.specs.Every.{every}
+use Rattle.std.specs.Prelude.{ℕ, zero, suc, ◌*◌, Bool, ◌&&◌, leb, List, [], ◌∷◌, length, nat_le, slice_index}
+use Rattle.std.specs.List.{list_all}
 
 -- the product of all lengths, in exact whole numbers
 abbrev pub product : List ℕ → ℕ
@@ -9,12 +9,7 @@ product (n ∷ ns) = n * product ns
 
 -- one to four lengths, each at least 1
 abbrev pub is_shape : List ℕ → Bool
-is_shape shape = (nat_le 1 (length shape) && nat_le (length shape) 4) && every (leb 1) shape
-
--- the number of elements, where they take at most 4,096 bytes
-abbrev pub Counted : List ℕ → ℕ → Option ℕ → Type 0
-Counted shape size (Some n) = (n ≡ product shape) × (product shape * size ≤ 4096)
-Counted shape size None = 4096 < product shape * size
+is_shape shape = (nat_le 1 (length shape) && nat_le (length shape) 4) && list_all (leb 1) shape
 
 -- how many elements an array of r axes has
 abbrev pub count : (ℕ → ℕ) → ℕ → ℕ

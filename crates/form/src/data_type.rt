@@ -5,25 +5,50 @@ ghost use Rattle.form.specs.Types.{code_of, size_of, code_refusal};
 
 use crate::fault::Fault;
 
-#[derive(Clone, Copy)]
+// Each has its code for a discriminant.
+#[derive(Clone, Copy, Debug, PartialEq, Eq)]
 pub enum DataType {
-    UInt8,
-    Int8,
-    UInt16,
-    Int16,
-    UInt32,
-    Int32,
-    UInt64,
-    Int64,
-    Float32,
-    Float64,
+    UInt8 = 1,
+    Int8 = 2,
+    UInt16 = 3,
+    Int16 = 4,
+    UInt32 = 5,
+    Int32 = 6,
+    UInt64 = 7,
+    Int64 = 8,
+    Float32 = 9,
+    Float64 = 10,
 }
 
 impl DataType {
-    // The data type with the code.
-    pub fn from_code(code: usize) -> Result<DataType, Fault>
-        ensures { Answers (code_refusal code) (λ t. code_of t ≡ code) result }
+    // How many bytes an element has.
+    pub fn size(&self) -> usize
+        ensures { result ≡ size_of self.now }
     {
+        match self {
+            DataType::UInt8 | DataType::Int8 => 1,
+            DataType::UInt16 | DataType::Int16 => 2,
+            DataType::UInt32 | DataType::Int32 | DataType::Float32 => 4,
+            DataType::UInt64 | DataType::Int64 | DataType::Float64 => 8,
+        }
+    }
+}
+
+impl From<DataType> for usize {
+    ghost from_gives = { λ data_type code. code ≡ code_of data_type };
+
+    fn from(data_type: DataType) -> usize {
+        data_type as usize
+    }
+}
+
+// The data type with the code.
+impl TryFrom<usize> for DataType {
+    type Error = Fault;
+
+    ghost try_from_gives = { λ code. Answers (code_refusal code) (λ data_type. code_of data_type ≡ code) };
+
+    fn try_from(code: usize) -> Result<DataType, Fault> {
         match code {
             1 => Ok(DataType::UInt8),
             2 => Ok(DataType::Int8),
@@ -36,35 +61,6 @@ impl DataType {
             9 => Ok(DataType::Float32),
             10 => Ok(DataType::Float64),
             _ => Err(Fault::DataType),
-        }
-    }
-
-    pub fn code(&self) -> usize
-        ensures { result ≡ code_of self.now }
-    {
-        match self {
-            DataType::UInt8 => 1,
-            DataType::Int8 => 2,
-            DataType::UInt16 => 3,
-            DataType::Int16 => 4,
-            DataType::UInt32 => 5,
-            DataType::Int32 => 6,
-            DataType::UInt64 => 7,
-            DataType::Int64 => 8,
-            DataType::Float32 => 9,
-            DataType::Float64 => 10,
-        }
-    }
-
-    // How many bytes an element has.
-    pub fn size(&self) -> usize
-        ensures { result ≡ size_of self.now }
-    {
-        match self {
-            DataType::UInt8 | DataType::Int8 => 1,
-            DataType::UInt16 | DataType::Int16 => 2,
-            DataType::UInt32 | DataType::Int32 | DataType::Float32 => 4,
-            DataType::UInt64 | DataType::Int64 | DataType::Float64 => 8,
         }
     }
 }

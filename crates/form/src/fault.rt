@@ -1,9 +1,12 @@
 // Every refusal of the library.
 ghost use Rattle.std.specs.Prelude.{◌≡◌, Some, None};
-ghost use Rattle.form.specs.Refusals.{refusal, value_of, Told};
+ghost use Rattle.form.specs.Refusals.{refusal, value_of, fault_text, Told};
+
+use std::error::Error;
+use std::fmt;
 
 // Why a call was refused. `specs/Refusals.antt` gives each case its number and its values.
-#[derive(Clone, Copy)]
+#[derive(Clone, Copy, Debug, PartialEq, Eq)]
 pub enum Fault {
     // not one to four lengths, or a length of 0
     Shape,
@@ -48,7 +51,7 @@ pub enum Fault {
 }
 
 impl Fault {
-    // The refusal's number.
+    // The refusal's number. A match gives it, since an enum whose variant has a value has no discriminants.
     pub fn number(&self) -> u8
         ensures { result ≡ (refusal self.now).number }
     {
@@ -86,6 +89,20 @@ impl Fault {
         }
     }
 }
+
+// The number, and the single where there is one, as "refused 13" and "refused 15 at 2".
+impl fmt::Display for Fault {
+    ghost output = { λ fault. Some (fault_text fault) };
+
+    fn fmt<W: fmt::Write>(&self, f: &mut fmt::Formatter<W>) -> fmt::Result {
+        match self.single() {
+            Some(single) => write!(f, "refused {} at {single}", self.number()),
+            None => write!(f, "refused {}", self.number()),
+        }
+    }
+}
+
+impl Error for Fault {}
 
 // No two refusals have the same number and values.
 pub fn refusals_told_apart()

@@ -1,8 +1,8 @@
 // Makes forms and reads them.
-ghost use Rattle.std.specs.Prelude.{◌≡◌, ◌*◌, ◌<◌, ◌≤◌, true, ◌++◌, length, drop};
+ghost use Rattle.std.specs.Prelude.{◌≡◌, ◌*◌, ◌≤◌, true, length, nat_le};
 ghost use Rattle.form.specs.Answers.{Answers};
 ghost use Rattle.form.specs.Types.{code_of, size_of};
-ghost use Rattle.form.specs.Shapes.{product, is_shape, Counted, on, count, volume};
+ghost use Rattle.form.specs.Shapes.{product, is_shape, on, count, volume};
 ghost use Rattle.form.specs.Forms.{shape_of, element_size, fill_of, form_refusal, Made};
 
 use crate::array_form::Form;
@@ -13,41 +13,17 @@ use crate::fault::Fault;
 fn is_shape(shape: &[usize]) -> bool
     ensures { result ≡ is_shape shape.now }
 {
-    if shape.len() < 1 || shape.len() > 4 {
-        return false;
-    }
-    for len in shape {
-        if *len == 0 {
-            return false;
-        }
-    }
-    true
+    (1..=4).contains(&shape.len()) && !shape.contains(&0)
 }
 
-// The number of elements, or None where they take more than 4,096 bytes.
-fn element_count(shape: &[usize], size: usize) -> Option<usize>
-    requires some { 0 < size }
-    requires small { size ≤ 8 }
-    requires full { 0 < product shape.now }
-    ensures { Counted shape.now size result }
+// Whether the elements take at most 4,096 bytes. A product past usize's greatest stays there, and is too large.
+fn fits(shape: &[usize], size: usize) -> bool
+    ensures { result ≡ nat_le (product shape.now * size) 4096 }
 {
-    let limit = 4096 / size;
-    let mut n = 1;
-    for len in shape {
-        if *len > limit / n {
-            return None;
-        }
-        n *= *len;
-    }
-    Some(n)
-}
-
-// Writes the numbers to the front.
-fn put<T: Copy>(to: &mut [T], front: &[T])
-    requires { length front.now ≤ length to.old }
-    ensures { to.new ≡ front.now ++ drop (length front.now) to.old }
-{
-    to[0..front.len()].copy_from_slice(front);
+    let bytes = shape
+        .iter()
+        .fold(size, |bytes, len| bytes.saturating_mul(*len));
+    bytes <= 4096
 }
 
 // The form, with 1 for each unused length and 0 for each unused byte.
@@ -58,9 +34,9 @@ fn padded(shape: &[usize], data_type: DataType, fill: &[u8]) -> Form
     ensures { Made shape.now (code_of data_type) fill.now result }
 {
     let mut lengths = [1; 4];
-    put(&mut lengths, shape);
+    lengths[..shape.len()].copy_from_slice(shape);
     let mut element = [0; 8];
-    put(&mut element, fill);
+    element[..fill.len()].copy_from_slice(fill);
     Form {
         lengths,
         dims: shape.len(),
@@ -77,9 +53,9 @@ impl Form {
         if !is_shape(shape) {
             return Err(Fault::Shape);
         }
-        let data_type = DataType::from_code(code)?;
+        let data_type = DataType::try_from(code)?;
         let size = data_type.size();
-        if element_count(shape, size).is_none() {
+        if !fits(shape, size) {
             return Err(Fault::ArraySize);
         }
         if fill.len() != size {
@@ -92,7 +68,7 @@ impl Form {
         ensures value { result.now ≡ shape_of self.now }
         ensures len { length result.now ≡ self.now.dims }
     {
-        &self.lengths[0..self.dims]
+        &self.lengths[..self.dims]
     }
 
     pub fn data_type(&self) -> DataType
@@ -105,7 +81,7 @@ impl Form {
         ensures value { result.now ≡ fill_of self.now }
         ensures len { length result.now ≡ element_size self.now }
     {
-        &self.fill[0..self.data_type.size()]
+        &self.fill[..self.data_type.size()]
     }
 
     // How many elements the array has.
@@ -113,11 +89,7 @@ impl Form {
         ensures exact { result ≡ product (shape_of self.now) }
         ensures counted { result ≡ count (on self.now.lengths) self.now.dims }
     {
-        let mut n = 1;
-        for len in self.shape() {
-            n *= *len;
-        }
-        n
+        self.shape().iter().product()
     }
 
     // How many bytes the array has.

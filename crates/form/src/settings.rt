@@ -1,9 +1,10 @@
 // The settings, and a span in which checks are off.
 ghost use Rattle.std.specs.Prelude.{◌≡◌, true, false, length, Ok};
 ghost use Rattle.form.specs.Refusals.{told, only_if};
-ghost use Rattle.form.specs.Every.{every};
+ghost use Rattle.std.specs.List.{list_all};
 
 use crate::fault::Fault;
+use std::mem;
 
 #[derive(Clone, Copy)]
 pub struct Settings {
@@ -31,8 +32,7 @@ impl<'a> LenientSpan<'a> {
         ensures off { result.settings.now.checks ≡ false }
         ensures kept { result.earlier ≡ settings.old.checks }
     {
-        let earlier = settings.checks;
-        settings.checks = false;
+        let earlier = mem::replace(&mut settings.checks, false);
         LenientSpan { settings, earlier }
     }
 
@@ -48,37 +48,31 @@ impl Drop for LenientSpan<'_> {
     fn drop(self)
         ensures { self.exit.0.now.checks ≡ self.entry.earlier }
     {
-        self.settings.checks = self.earlier;
-        let LenientSpan {
-            settings: _,
-            earlier: _,
-        } = self;
+        let LenientSpan { settings, earlier } = self;
+        settings.checks = earlier;
     }
 }
 
-// Counts the steps, and stops at the first that fails.
-fn walked(steps: &[bool]) -> Result<usize, Fault>
-    ensures { told result ≡ only_if (every (λ b. b) steps.now) 13 (Ok (length steps.now)) }
+// Stops at the first step that fails.
+fn walked(steps: &[bool]) -> Result<(), Fault>
+    ensures { told result ≡ only_if (list_all (λ step. step) steps.now) 13 (Ok tt) }
 {
-    let mut n = 0;
-    for step in steps {
-        if !*step {
-            return Err(Fault::Length);
-        }
-        n += 1;
+    if steps.iter().all(|step| *step) {
+        Ok(())
+    } else {
+        Err(Fault::Length)
     }
-    Ok(n)
 }
 
-// Walks the steps inside a lenient span, which it leaves early where there are none and where one fails.
+// Walks the steps inside a lenient span, which it leaves early where there are none and where one fails, and counts them.
 pub fn spans_restore(settings: &mut Settings, steps: &[bool]) -> Result<usize, Fault>
-    ensures answer { told result ≡ only_if (every (λ b. b) steps.now) 13 (Ok (length steps.now)) }
+    ensures answer { told result ≡ only_if (list_all (λ step. step) steps.now) 13 (Ok (length steps.now)) }
     ensures whole { settings.new ≡ settings.old }
 {
     let _span = LenientSpan::new(settings);
-    if steps.len() == 0 {
+    if steps.is_empty() {
         return Ok(0);
     }
-    let n = walked(steps)?;
-    Ok(n)
+    walked(steps)?;
+    Ok(steps.len())
 }

@@ -1,6 +1,6 @@
 -- A table that is turned: where each place goes, and that turning it back gives it again.
-use Rattle.std.specs.Prelude.{◌≡◌, ℕ, ◌+◌, ◌*◌, ◌/◌, ◌%◌, ◌<◌, List, slice_index}
-use Rattle.std.proofs.Common.{sym, refl, ap, ◌∙◌, mul_comm, arith}
+use Rattle.std.specs.Prelude.{◌≡◌, ℕ, ◌+◌, ◌*◌, ◌/◌, ◌%◌, ◌<◌, List, length, slice_index}
+use Rattle.std.proofs.Common.{refl, ap, ◌∙◌, mul_comm, arith}
 use Rattle.std.proofs.lemmas.Nat.{div-mul-add, mod-mul-add, mul-add-lt, div_below, mod_below, div-add-mod'}
 use Rattle.stage.specs.Gathers.{gathered}
 use Rattle.stage.proofs.Gathers.{get_or-gathered, gathered_back, positive, inside}
@@ -24,15 +24,16 @@ get_or-turned rows cols xs i j hi hj =
     get_or-gathered (by_columns rows cols) (rows * cols) xs (j * rows + i) (mul-add-lt j rows i cols hj hi)
     ∙ ap (λ k. slice_index xs k) (by_columns_at rows cols i j hi)
 
-pub whole : (n e : ℕ) → n % e ≡ 0 → (n / e * e ≡ n) × (e * (n / e) ≡ n)
-whole n e z = let w : n / e * e ≡ n = omega (arith, div-add-mod' n e) in (w, mul_comm e (n / e) ∙ w)
+turned-turned : (rows cols : ℕ) (xs : List ℕ) → length xs ≡ rows * cols → turned cols rows (turned rows cols xs) ≡ xs
+turned-turned rows cols xs l =
+    ap (λ n. gathered (by_columns cols rows) (cols * rows) (gathered (by_columns rows cols) n xs)) (mul_comm rows cols)
+    ∙ gathered_back (by_columns rows cols) (by_columns cols rows) (cols * rows) xs (l ∙ mul_comm rows cols) (by_columns_back cols rows)
+
+pub whole : (n e : ℕ) → n % e ≡ 0 → n ≡ n / e * e
+whole n e z = omega (arith, div-add-mod' n e)
 
 pub goes : Goes
 goes e n x i b = get_or-turned (n / e) e x i b
 
 pub back : Back
-back e n x z l =
-    let home : ℕ → ℕ = by_columns e (n / e) in
-    let w = whole n e z in
-    ap (λ v. gathered home (e * (n / e)) (gathered (by_columns (n / e) e) v x)) (mul_comm (n / e) e)
-    ∙ gathered_back (by_columns (n / e) e) home (e * (n / e)) x (l ∙ sym w.1) (by_columns_back e (n / e))
+back e n x z l = turned-turned (n / e) e x (l ∙ whole n e z)

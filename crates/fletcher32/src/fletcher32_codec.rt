@@ -1,12 +1,12 @@
 // The fletcher32 codec: the bytes, and after them their checksum.
-ghost use Rattle.std.specs.Prelude.{◌≡◌, ◌+◌, ◌-◌, ◌^◌, ◌<◌, ◌≤◌, length, take, Ok, Err};
+ghost use Rattle.std.specs.Prelude.{◌≡◌, ◌+◌, ◌-◌, ◌^◌, ◌<◌, ◌≤◌, ◌↔◌, length, take, IsOk, IfOk, IfErr};
 ghost use Rattle.form.specs.Refusals.{refusal, plain};
 ghost use Rattle.fletcher32.specs.Fletcher32.{folded, fletcher32, checksumming};
 ghost use Rattle.fletcher32.specs.Laws.{checksumming_laws};
 
 use form::fault::Fault;
 use stage::capability::PartialDecoderCapability;
-use stage::room::room;
+use stage::room::{enough, room};
 use stage::single::SingleCodec;
 
 // How many bytes a stored checksum has.
@@ -17,10 +17,13 @@ pub const CHECKSUM_SIZE: usize = 4;
 struct Sums {
     s: u64,
     t: u64,
+    ghost small_s: { s < 2 ^ 62 },
+    ghost small_t: { t < 2 ^ 62 },
 }
 
 fn fold(v: u64) -> u32
-    ensures { (result ≡ folded v) × (result < 65536) }
+    ensures value { result ≡ folded v }
+    ensures small { result < 65536 }
 {
     if v == 0 {
         0
@@ -31,13 +34,11 @@ fn fold(v: u64) -> u32
 
 impl Sums {
     // One more word; large sums are folded, so that none overflows.
-    fn add(self, word: u64) -> Sums
-        requires { (word < 65536) × ((self.s < 2 ^ 62) × (self.t < 2 ^ 62)) }
-        ensures small { (result.s < 2 ^ 62) × (result.t < 2 ^ 62) }
+    fn add(self, word: u16) -> Sums
         ensures sum { folded result.s ≡ folded (self.s + word) }
         ensures sums { folded result.t ≡ folded (self.t + (self.s + word)) }
     {
-        let s = self.s + word;
+        let s = self.s + u64::from(word);
         let t = self.t + s;
         if t < 1 << 62 {
             Sums { s, t }
@@ -57,41 +58,45 @@ pub fn h5_checksum_fletcher32(bytes: &[u8]) -> u32
     let mut sums = Sums { s: 0, t: 0 };
     let mut left = bytes;
     while let [a, b, rest @ ..] = left {
-        sums = sums.add(256 * u64::from(*a) + u64::from(*b));
+        sums = sums.add(u16::from_be_bytes([*a, *b]));
         left = rest;
     }
     if let [a] = left {
-        sums = sums.add(256 * u64::from(*a));
+        sums = sums.add(u16::from_be_bytes([*a, 0]));
     }
     65536 * fold(sums.t) + fold(sums.s)
 }
 
 // The bytes before the checksum, where bytes ends in one.
 pub fn data_before_checksum(bytes: &[u8]) -> Result<&[u8], Fault>
-    ensures { elim result [ Ok s ↦ (4 ≤ length bytes.now) × (s.now ≡ take (length bytes.now - 4) bytes.now) | Err e ↦ (length bytes.now < 4) × (refusal e ≡ plain 13) ] }
+    ensures long { IsOk result ↔ (CHECKSUM_SIZE ≤ length bytes.now) }
+    ensures data { IfOk result (λ s. s.now ≡ take (length bytes.now - CHECKSUM_SIZE) bytes.now) }
+    ensures refusal { IfErr result (λ e. refusal e ≡ plain 13) }
 {
-    if bytes.len() < CHECKSUM_SIZE {
-        return Err(Fault::Length);
+    let (data, _) = bytes
+        .split_last_chunk::<CHECKSUM_SIZE>()
+        .ok_or(Fault::Length)?;
+    Ok(data)
+}
+
+// Whether bytes ends in the checksum of what is before it.
+fn checksum_agrees(bytes: &[u8]) -> bool
+    requires { CHECKSUM_SIZE ≤ length bytes.now }
+    ensures { result ≡ checksumming.test (length bytes.now - CHECKSUM_SIZE) bytes.now }
+{
+    bytes.split_last_chunk().is_some_and(|(data, stored)| {
+        u32::from_le_bytes(*stored) == h5_checksum_fletcher32(data)
+    })
+}
+
+// Stores the checksum of the bytes before the last four in these.
+fn append_checksum(bytes: &mut [u8])
+    requires { CHECKSUM_SIZE ≤ length bytes.old }
+    ensures { bytes.new ≡ checksumming.encoded (length bytes.old - CHECKSUM_SIZE) (take (length bytes.old - CHECKSUM_SIZE) bytes.old) }
+{
+    if let Some((data, stored)) = bytes.split_last_chunk_mut() {
+        *stored = h5_checksum_fletcher32(data).to_le_bytes();
     }
-    Ok(&bytes[0..bytes.len() - CHECKSUM_SIZE])
-}
-
-// Whether the first n bytes and the checksum stored after them agree.
-fn checksum_agrees(bytes: &[u8], n: usize) -> bool
-    requires { n + 4 ≤ length bytes.now }
-    ensures { result ≡ checksumming.test n (take (n + 4) bytes.now) }
-{
-    let stored = u32::from_le_bytes([bytes[n], bytes[n + 1], bytes[n + 2], bytes[n + 3]]);
-    stored == h5_checksum_fletcher32(&bytes[0..n])
-}
-
-// Stores the checksum of the first n bytes after them.
-fn append_checksum(bytes: &mut [u8], n: usize)
-    requires { n + 4 ≤ length bytes.old }
-    ensures { take (n + 4) bytes.new ≡ checksumming.encoded n (take n bytes.old) }
-{
-    let checksum = h5_checksum_fletcher32(&bytes[0..n]);
-    bytes[n..n + CHECKSUM_SIZE].copy_from_slice(&checksum.to_le_bytes());
 }
 
 #[derive(Clone, Copy)]
@@ -129,21 +134,19 @@ impl SingleCodec for Fletcher32Codec {
     fn encode(&self, form: &usize, buf: &mut [u8], scratch: &mut [u8]) -> Result<usize, Fault> {
         let encoded = self.coded(form)?;
         room(buf, scratch)?;
-        append_checksum(buf, *form);
+        append_checksum(&mut buf[..encoded]);
         Ok(encoded)
     }
 
     fn decode(&self, form: &usize, buf: &mut [u8], scratch: &mut [u8]) -> Result<usize, Fault> {
-        let _encoded = self.coded(form)?;
+        self.coded(form)?;
         room(buf, scratch)?;
         Ok(*form)
     }
 
     fn test(&self, form: &usize, buf: &[u8]) -> Result<bool, Fault> {
-        let _encoded = self.coded(form)?;
-        if buf.len() < 4096 {
-            return Err(Fault::BufferShort);
-        }
-        Ok(checksum_agrees(buf, *form))
+        let encoded = self.coded(form)?;
+        enough(buf)?;
+        Ok(checksum_agrees(&buf[..encoded]))
     }
 }

@@ -1,16 +1,20 @@
 -- The shuffle of numcodecs: of c elements of e bytes, byte i e + b goes to b c + i.
-use Rattle.std.specs.Prelude.{◌≡◌, ℕ, ◌+◌, ◌*◌, ◌/◌, ◌%◌, ◌<◌, ◌≤◌, true, cond, List, map, length, Some, Option, ◌==◌, slice_index}
-use Rattle.std.specs.List.{range_with_len}
+use Rattle.std.specs.Prelude.{◌≡◌, ℕ, ◌+◌, ◌*◌, ◌/◌, ◌%◌, ◌<◌, ◌≤◌, true, cond, List, length, Some, Option, ◌==◌, slice_index}
 use Rattle.stage.specs.Single.{Coding, whole_only}
 use Rattle.stage.specs.Stage.{too_long}
+use Rattle.stage.specs.Gathers.{gathered}
 
 -- the element sizes that are taken
 abbrev pub Sized : ℕ → Type 0
 Sized e = (1 ≤ e) × (e ≤ 4096)
 
--- a table of rows times cols, by columns: place j rows + i has what stood at i cols + j
+-- by the columns of a table of rows times cols, place j rows + i is that of column j in row i, i cols + j
+abbrev pub by_columns : ℕ → ℕ → ℕ → ℕ
+by_columns rows cols k = (k % rows) * cols + k / rows
+
+-- a table of rows times cols, by columns
 abbrev pub turned : ℕ → ℕ → List ℕ → List ℕ
-turned rows cols xs = map (λ k. slice_index xs ((k % rows) * cols + k / rows)) (range_with_len 0 (rows * cols))
+turned rows cols xs = gathered (by_columns rows cols) (rows * cols) xs
 
 -- a length that is no multiple of the element size is refused with 11, and then one over 4,096 with 12
 abbrev pub uneven : ℕ → ℕ → Option ℕ

@@ -1,12 +1,13 @@
 // The shuffle codec: the first byte of each element, then the second of each, and so on.
-ghost use Rattle.std.specs.Prelude.{◌≡◌, ◌*◌, ◌≤◌, length, take, Ok, Err};
-ghost use Rattle.form.specs.Refusals.{refusal, plain};
-ghost use Rattle.shuffle.specs.Shuffle.{Sized, turned, shuffling, Goes, Back};
+ghost use Rattle.std.specs.Prelude.{◌≡◌, ◌↔◌, ◌*◌, ◌%◌, ◌≤◌, length, take, Ok, IsOk, IfOk, IfErr};
+ghost use Rattle.form.specs.Refusals.{refusal, plain, unless, only_if};
+ghost use Rattle.stage.specs.Calls.{roomy, InPlace};
+ghost use Rattle.shuffle.specs.Shuffle.{Sized, turned, uneven, shuffling, Goes, Back};
 ghost use Rattle.shuffle.specs.Laws.{shuffling_laws};
 
 use form::fault::Fault;
 use stage::capability::PartialDecoderCapability;
-use stage::room::room;
+use stage::room::{enough, room};
 use stage::single::SingleCodec;
 
 #[derive(Clone, Copy)]
@@ -18,40 +19,54 @@ pub struct ShuffleCodec {
 impl ShuffleCodec {
     // A shuffle of elements of 1 to 4,096 bytes.
     pub fn new(elementsize: usize) -> Result<ShuffleCodec, Fault>
-        ensures { elim result [ Ok s ↦ (s.elementsize ≡ elementsize) × Sized elementsize | Err e ↦ (refusal e ≡ plain 8) × (Sized elementsize → ⊥) ] }
+        ensures value { IfOk result (λ s. s.elementsize ≡ elementsize) }
+        ensures sized { IsOk result ↔ Sized elementsize }
+        ensures refusal { IfErr result (λ e. refusal e ≡ plain 8) }
     {
-        if (elementsize < 1) | (elementsize > 4096) {
+        if !(1..=4096).contains(&elementsize) {
             return Err(Fault::ElementSize);
         }
         Ok(ShuffleCodec { elementsize })
     }
 
     pub fn elementsize(&self) -> usize
-        ensures { (result ≡ self.now.elementsize) × Sized result }
+        ensures value { result ≡ self.now.elementsize }
+        ensures sized { Sized result }
     {
         self.elementsize
+    }
+
+    // Turns the first bytes of buf, a table of rows times cols, where the form is taken and there is room.
+    fn turn_front(
+        &self,
+        form: &usize,
+        rows: usize,
+        cols: usize,
+        buf: &mut [u8],
+        scratch: &mut [u8],
+    ) -> Result<usize, Fault>
+        requires { form.now % self.now.elementsize ≡ 0 → rows * cols ≡ form.now }
+        ensures { InPlace (unless (uneven self.now.elementsize form.now) (only_if (roomy (length buf.old) (length scratch.old)) 14 (Ok form.now))) (turned rows cols (take form.now buf.old)) buf.new result }
+    {
+        let n = self.coded(form)?;
+        room(buf, scratch)?;
+        scratch[..n].copy_from_slice(&buf[..n]);
+        turn(rows, cols, &scratch[..n], &mut buf[..n]);
+        Ok(n)
     }
 }
 
 // Writes a table of rows times cols by its columns.
-fn turn(rows: usize, cols: usize, src: &[u8], dst: &mut [u8])
-    requires { (length src.now ≡ rows * cols) × (length dst.old ≡ rows * cols) }
-    ensures { dst.new ≡ turned rows cols src.now }
+fn turn(rows: usize, cols: usize, table: &[u8], out: &mut [u8])
+    requires whole { length table.now ≡ rows * cols }
+    requires room { length out.old ≡ rows * cols }
+    ensures { out.new ≡ turned rows cols table.now }
 {
     for i in 0..rows {
-        for j in 0..cols {
-            dst[j * rows + i] = src[i * cols + j];
+        for (j, byte) in table[i * cols..][..cols].iter().enumerate() {
+            out[j * rows + i] = *byte;
         }
     }
-}
-
-// The same of the first n bytes of a buffer, where they stand.
-fn turn_front(rows: usize, cols: usize, n: usize, buf: &mut [u8], scratch: &mut [u8])
-    requires { (rows * cols ≡ n) × ((n ≤ length buf.old) × (n ≤ length scratch.old)) }
-    ensures { take n buf.new ≡ turned rows cols (take n buf.old) }
-{
-    turn(rows, cols, &buf[0..n], &mut scratch[0..n]);
-    buf[0..n].copy_from_slice(&scratch[0..n]);
 }
 
 impl SingleCodec for ShuffleCodec {
@@ -71,7 +86,7 @@ impl SingleCodec for ShuffleCodec {
     }
 
     fn coded(&self, form: &usize) -> Result<usize, Fault> {
-        if *form % self.elementsize != 0 {
+        if !form.is_multiple_of(self.elementsize) {
             return Err(Fault::Multiple);
         }
         if *form > 4096 {
@@ -81,24 +96,18 @@ impl SingleCodec for ShuffleCodec {
     }
 
     fn encode(&self, form: &usize, buf: &mut [u8], scratch: &mut [u8]) -> Result<usize, Fault> {
-        let n = self.coded(form)?;
-        room(buf, scratch)?;
-        turn_front(n / self.elementsize, self.elementsize, n, buf, scratch);
-        Ok(n)
+        let elements = *form / self.elementsize;
+        self.turn_front(form, elements, self.elementsize, buf, scratch)
     }
 
     fn decode(&self, form: &usize, buf: &mut [u8], scratch: &mut [u8]) -> Result<usize, Fault> {
-        let n = self.coded(form)?;
-        room(buf, scratch)?;
-        turn_front(self.elementsize, n / self.elementsize, n, buf, scratch);
-        Ok(n)
+        let elements = *form / self.elementsize;
+        self.turn_front(form, self.elementsize, elements, buf, scratch)
     }
 
     fn test(&self, form: &usize, buf: &[u8]) -> Result<bool, Fault> {
-        let _n = self.coded(form)?;
-        if buf.len() < 4096 {
-            return Err(Fault::BufferShort);
-        }
+        self.coded(form)?;
+        enough(buf)?;
         Ok(true)
     }
 }

@@ -1,2 +1,2 @@
-pub mod Reading
-pub mod Loops
+pub mod Bytes
+pub mod Turns

@@ -23,6 +23,15 @@ group_of Int64 = modular 8
 group_of Float32 = exclusive 4
 group_of Float64 = exclusive 8
 
+-- the first element stays, and F says what becomes of those after it
+abbrev pub first_stays : (ℕ → List ℕ → List ℕ) → List ℕ → List ℕ
+first_stays F [] = []
+first_stays F (v ∷ vs) = v ∷ F v vs
+
+-- the bytes of n elements of w bytes each, where `code` says what becomes of the elements
+abbrev pub on_elements : (List ℕ → List ℕ) → ℕ → ℕ → List ℕ → List ℕ
+on_elements code w n x = bytes w (code (elements w n x))
+
 module _ (o : Operations) where
   -- each element less the one before it, where p stands before the first
   abbrev pub lessened : ℕ → List ℕ → List ℕ
@@ -31,8 +40,7 @@ module _ (o : Operations) where
 
   -- the first element stays
   abbrev pub differences : List ℕ → List ℕ
-  differences [] = []
-  differences (v ∷ vs) = v ∷ lessened v vs
+  differences = first_stays lessened
 
   -- each difference plus the sum before it, where p is the sum before the first
   abbrev pub summed : ℕ → List ℕ → List ℕ
@@ -41,15 +49,14 @@ module _ (o : Operations) where
 
   -- the running sums
   abbrev pub sums : List ℕ → List ℕ
-  sums [] = []
-  sums (d ∷ ds) = d ∷ summed d ds
+  sums = first_stays summed
 
   -- the same of the bytes of n elements
   abbrev pub differenced : ℕ → List ℕ → List ℕ
-  differenced n x = bytes o.width (differences (elements o.width n x))
+  differenced = on_elements differences o.width
 
   abbrev pub restored : ℕ → List ℕ → List ℕ
-  restored n x = bytes o.width (sums (elements o.width n x))
+  restored = on_elements sums o.width
 
 abbrev pub differencing : Coding Form Form
 differencing = record {

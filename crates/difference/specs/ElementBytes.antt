@@ -1,5 +1,6 @@
 -- Elements and their bytes.
 use Rattle.std.specs.Prelude.{◌≡◌, ℕ, zero, suc, ◌+◌, ◌-◌, ◌*◌, ◌/◌, ◌%◌, ◌^◌, ◌<◌, ◌≤◌, List, [], ◌∷◌, length, take, drop, refl}
+use Rattle.std.specs.List.{AllByRecursion}
 use Rattle.std.proofs.Common.{sym, ap, subst, ◌∙◌, suc-mul, arith}
 use Rattle.std.proofs.Math.Nat.{pow-succ'}
 use Rattle.std.proofs.lemmas.List.{length-append, length-take-le, length-drop, take_at, drop_at, take-append-drop, nil_from_length, get_or-drop, take-take, drop-take}
@@ -9,8 +10,7 @@ use Rattle.stage.proofs.Bytewise.{Bytes-append, Bytes-take}
 
 -- each is below m
 abbrev pub Below : ℕ → List ℕ → Type 0
-Below m [] = Unit {0}
-Below m (v ∷ vs) = (v < m) × Below m vs
+Below m = AllByRecursion (λ v. v < m)
 
 Bytes_tail : (d : ℕ) (ds : List ℕ) → Bytes (d ∷ ds) → Bytes ds
 Bytes_tail d ds h k u = h (suc k) (omega arith)
@@ -28,7 +28,7 @@ little_lt : (x : List ℕ) → Bytes x → little x < 256 ^ length x
 little_lt [] h = omega arith
 little_lt (d ∷ ds) h = little_fits (little ds) d (length ds) (little_lt ds (Bytes_tail d ds h)) (h 0 (omega arith))
 
-length_digits : (w v : ℕ) → length (digits w v) ≡ w
+pub length_digits : (w v : ℕ) → length (digits w v) ≡ w
 length_digits zero v = refl
 length_digits (suc w) v = ap suc (length_digits w (v / 256))
 
@@ -44,7 +44,7 @@ little-digits (suc w) v h =
     let i = little-digits w (v / 256) (omega arith) in
     omega arith
 
-digits-little : (x : List ℕ) → Bytes x → digits (length x) (little x) ≡ x
+pub digits-little : (x : List ℕ) → Bytes x → digits (length x) (little x) ≡ x
 digits-little [] h = refl
 digits-little (d ∷ ds) h =
     let b : d < 256 = h 0 (omega arith) in

@@ -4,35 +4,33 @@ use Rattle.std.proofs.Common.{ap, subst, ◌∙◌, add-one, arith}
 use Rattle.stage.specs.Stage.{Bytes}
 use Rattle.stage.specs.Elements.{elements, bytes}
 use Rattle.groups.specs.Groups.{Operations, GroupLaws}
-use Rattle.difference.specs.Difference.{lessened, differences, summed, sums, differenced, restored}
+use Rattle.difference.specs.Difference.{first_stays, on_elements, lessened, differences, summed, sums, differenced, restored}
 use Rattle.difference.specs.ElementBytes.{Below, length-elements, length-bytes, elements-bytes, elements_below, bytes_elements}
+
+-- as many elements, and as many bytes, where F keeps how many there are
+module _ (F : ℕ → List ℕ → List ℕ) (kept : (p : ℕ) (vs : List ℕ) → length (F p vs) ≡ length vs) where
+  length-first_stays : (vs : List ℕ) → length (first_stays F vs) ≡ length vs
+  length-first_stays [] = refl
+  length-first_stays (v ∷ vs) = ap suc (kept v vs)
+
+  length-on_elements : (w n : ℕ) (x : List ℕ) → length (on_elements (first_stays F) w n x) ≡ n * w
+  length-on_elements w n x =
+      length-bytes w (first_stays F (elements w n x)) ∙ ap (λ k. k * w) (length-first_stays (elements w n x) ∙ length-elements w n x)
 
 module _ (o : Operations) where
   length-lessened : (p : ℕ) (vs : List ℕ) → length (lessened o p vs) ≡ length vs
   length-lessened p [] = refl
   length-lessened p (v ∷ vs) = ap suc (length-lessened v vs)
 
-  length-differences : (vs : List ℕ) → length (differences o vs) ≡ length vs
-  length-differences [] = refl
-  length-differences (v ∷ vs) = ap suc (length-lessened v vs)
-
   length-summed : (p : ℕ) (vs : List ℕ) → length (summed o p vs) ≡ length vs
   length-summed p [] = refl
   length-summed p (v ∷ vs) = ap suc (length-summed (o.plus v p) vs)
 
-  length-sums : (vs : List ℕ) → length (sums o vs) ≡ length vs
-  length-sums [] = refl
-  length-sums (v ∷ vs) = ap suc (length-summed v vs)
-
   pub length-differenced : (n : ℕ) (x : List ℕ) → length (differenced o n x) ≡ n * o.width
-  length-differenced n x =
-      length-bytes o.width (differences o (elements o.width n x))
-      ∙ ap (λ k. k * o.width) (length-differences (elements o.width n x) ∙ length-elements o.width n x)
+  length-differenced = length-on_elements (lessened o) length-lessened o.width
 
   pub length-restored : (n : ℕ) (x : List ℕ) → length (restored o n x) ≡ n * o.width
-  length-restored n x =
-      length-bytes o.width (sums o (elements o.width n x))
-      ∙ ap (λ k. k * o.width) (length-sums (elements o.width n x) ∙ length-elements o.width n x)
+  length-restored = length-on_elements (summed o) length-summed o.width
 
   -- each element, by the one before it
   pub first_of : (vs : List ℕ) → slice_index (differences o vs) 0 ≡ slice_index vs 0
@@ -75,7 +73,7 @@ module _ (o : Operations) (l : GroupLaws o) where
   pub elements-differenced : (n : ℕ) (x : List ℕ) → n * o.width ≤ length x → Bytes x → elements o.width n (differenced o n x) ≡ differences o (elements o.width n x)
   elements-differenced n x h b =
       let vs : List ℕ = elements o.width n x in
-      let k : length (differences o vs) ≡ n = length-differences o vs ∙ length-elements o.width n x in
+      let k : length (differences o vs) ≡ n = length-first_stays (lessened o) (length-lessened o) vs ∙ length-elements o.width n x in
       subst (λ j. elements o.width j (differenced o n x) ≡ differences o vs) k
       (elements-bytes o.width (differences o vs) (differences_below vs (elements_below o.width n x h b)))
 

@@ -1,10 +1,10 @@
 // The difference codec: each element less the one before it.
-ghost use Rattle.std.specs.Prelude.{◌≡◌, ◌≤◌, length, take};
-ghost use Rattle.stage.specs.Arrays.{array_bytes};
-ghost use Rattle.difference.specs.Difference.{differencing, Differs, Restores};
+ghost use Rattle.std.specs.Prelude.{◌≡◌, length};
+ghost use Rattle.stage.specs.Arrays.{element_count, array_bytes};
+ghost use Rattle.difference.specs.Difference.{group_of, first_stays, on_elements, differencing, Differs, Restores};
 ghost use Rattle.difference.specs.Laws.{differencing_laws, differencing_arrays};
 
-use crate::differences::{decode, encode};
+use crate::differences::{Differences, Direction, Sums, turn};
 use form::array_form::Form;
 use form::data_type::DataType;
 use form::fault::Fault;
@@ -13,38 +13,21 @@ use groups::modular::Modular;
 use stage::array_to_array::SingleArrayToArrayCodec;
 use stage::capability::PartialDecoderCapability;
 use stage::codec::Representation;
-use stage::room::room;
+use stage::room::{enough, room};
 use stage::single::SingleCodec;
 
-// Encodes the array in front, in the group of its data type.
-fn encode_array(form: &Form, buf: &mut [u8])
-    requires { 4096 ≤ length buf.old }
-    ensures { take (array_bytes form.now) buf.new ≡ differencing.encoded form.now (take (array_bytes form.now) buf.old) }
+// Turns an array in one of the directions, in the group of its data type.
+fn turn_array<D: Direction>(form: &Form, array: &mut [u8])
+    requires { length array.old ≡ array_bytes form.now }
+    ensures { let o = group_of form.now.data_type in array.new ≡ on_elements (first_stays (D.after o)) o.width (element_count form.now) array.old }
 {
-    let count = form.elements();
     match form.data_type() {
-        DataType::UInt8 | DataType::Int8 => encode(&Modular::<u8>::new(), count, buf),
-        DataType::UInt16 | DataType::Int16 => encode(&Modular::<u16>::new(), count, buf),
-        DataType::UInt32 | DataType::Int32 => encode(&Modular::<u32>::new(), count, buf),
-        DataType::UInt64 | DataType::Int64 => encode(&Modular::<u64>::new(), count, buf),
-        DataType::Float32 => encode(&Exclusive::<u32>::new(), count, buf),
-        DataType::Float64 => encode(&Exclusive::<u64>::new(), count, buf),
-    }
-}
-
-// Decodes the array in front, in the group of its data type.
-fn decode_array(form: &Form, buf: &mut [u8])
-    requires { 4096 ≤ length buf.old }
-    ensures { take (array_bytes form.now) buf.new ≡ differencing.decoded form.now (take (array_bytes form.now) buf.old) }
-{
-    let count = form.elements();
-    match form.data_type() {
-        DataType::UInt8 | DataType::Int8 => decode(&Modular::<u8>::new(), count, buf),
-        DataType::UInt16 | DataType::Int16 => decode(&Modular::<u16>::new(), count, buf),
-        DataType::UInt32 | DataType::Int32 => decode(&Modular::<u32>::new(), count, buf),
-        DataType::UInt64 | DataType::Int64 => decode(&Modular::<u64>::new(), count, buf),
-        DataType::Float32 => decode(&Exclusive::<u32>::new(), count, buf),
-        DataType::Float64 => decode(&Exclusive::<u64>::new(), count, buf),
+        DataType::UInt8 | DataType::Int8 => turn::<D, _>(&Modular::<u8>::new(), array),
+        DataType::UInt16 | DataType::Int16 => turn::<D, _>(&Modular::<u16>::new(), array),
+        DataType::UInt32 | DataType::Int32 => turn::<D, _>(&Modular::<u32>::new(), array),
+        DataType::UInt64 | DataType::Int64 => turn::<D, _>(&Modular::<u64>::new(), array),
+        DataType::Float32 => turn::<D, _>(&Exclusive::<u32>::new(), array),
+        DataType::Float64 => turn::<D, _>(&Exclusive::<u64>::new(), array),
     }
 }
 
@@ -79,20 +62,20 @@ impl SingleCodec for DifferenceCodec {
 
     fn encode(&self, form: &Form, buf: &mut [u8], scratch: &mut [u8]) -> Result<usize, Fault> {
         room(buf, scratch)?;
-        encode_array(form, buf);
-        Ok(form.bytes())
+        let size = form.bytes();
+        turn_array::<Differences>(form, &mut buf[..size]);
+        Ok(size)
     }
 
     fn decode(&self, form: &Form, buf: &mut [u8], scratch: &mut [u8]) -> Result<usize, Fault> {
         room(buf, scratch)?;
-        decode_array(form, buf);
-        Ok(form.bytes())
+        let size = form.bytes();
+        turn_array::<Sums>(form, &mut buf[..size]);
+        Ok(size)
     }
 
     fn test(&self, form: &Form, buf: &[u8]) -> Result<bool, Fault> {
-        if buf.len() < 4096 {
-            return Err(Fault::BufferShort);
-        }
+        enough(buf)?;
         Ok(true)
     }
 }

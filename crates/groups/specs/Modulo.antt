@@ -1,11 +1,14 @@
 -- The integers modulo 256 ^ w: the laws, and how 64 bits compute them.
 use Rattle.std.specs.Prelude.{◌≡◌, ℕ, zero, suc, ◌+◌, ◌-◌, ◌*◌, ◌/◌, ◌%◌, ◌^◌, ◌<◌, ◌≤◌, bit_and}
-use Rattle.std.proofs.Common.{sym, ap, ◌∙◌, mod-lt, mod-eq_of_lt, mul-add, mul_comm, mul-one, suc-mul, arith, pow_pos, pow-add}
-use Rattle.std.proofs.Math.Nat.{mod-add-mod, add-mod_right, add-mul-mod_self_left}
+use Rattle.std.proofs.Common.{sym, ap, ◌∙◌, mod-lt, mod-eq_of_lt, mul-add, mul_comm, mul-one, suc-mul, arith, pow_pos, pow-add, lit<}
+use Rattle.std.proofs.Math.Nat.{mod-add-mod, add-mod_right, add-mul-mod_self_left, one-le-pow}
 use Rattle.std.proofs.Math.Pow.{mod-mod-pow}
 use Rattle.std.proofs.lemmas.Nat.{div-mul-add, div_below, div-add-mod', and_mask}
 use Rattle.groups.specs.Groups.{Narrow, GroupLaws, modular}
-use Rattle.groups.specs.Widths.{pow_above, pow_bits}
+use Rattle.groups.specs.Widths.{pow_bits}
+
+above : (w : ℕ) → 0 < 256 ^ w
+above w = one-le-pow w 256 (lit< tt)
 
 around : (m a : ℕ) → a < m → (a + m) % m ≡ a
 around m a p = add-mod_right a m ∙ mod-eq_of_lt p
@@ -25,8 +28,8 @@ plus_less m a b p q =
 pub modular_laws : (w : ℕ) → Narrow w → GroupLaws (modular w)
 modular_laws w h = record {
   narrow = h;
-  plus_fits = λ a b p q. mod-lt (a + b) (pow_above w);
-  less_fits = λ a b p q. mod-lt (a + (256 ^ w - b % 256 ^ w)) (pow_above w);
+  plus_fits = λ a b p q. mod-lt (a + b) (above w);
+  less_fits = λ a b p q. mod-lt (a + (256 ^ w - b % 256 ^ w)) (above w);
   less_plus = less_plus (256 ^ w);
   plus_less = plus_less (256 ^ w);
 }
@@ -71,7 +74,7 @@ module _ (w top : ℕ) (h : Narrow w) (e : top + 1 ≡ 256 ^ w) where
       let m : ℕ = 256 ^ w in
       let z : ℕ = 256 ^ (8 - w) in
       let k : w + (8 - w) ≡ 8 = omega arith in
-      let p : 0 < m = pow_above w in
+      let p : 0 < m = above w in
       let zm : m * z ≡ 2 ^ 64 = sym (pow-add 256 w (8 - w)) ∙ ap (λ j. 256 ^ j) k in
       let c = mul_comm z m in
       let d : b / m < z = div_below b m z p (omega arith) in

@@ -1,11 +1,7 @@
 -- Numbers of w bytes.
-use Rattle.std.specs.Prelude.{◌≡◌, ℕ, zero, suc, ◌+◌, ◌*◌, ◌^◌, ◌<◌, refl}
+use Rattle.std.specs.Prelude.{◌≡◌, ℕ, zero, suc, ◌+◌, ◌*◌, ◌^◌, refl}
 use Rattle.std.proofs.Common.{sym, ap, ◌∙◌, arith, pow-add}
 use Rattle.std.proofs.Math.Nat.{pow-succ'}
-
-pub pow_above : (m : ℕ) → 0 < 256 ^ m
-pow_above zero = omega arith
-pow_above (suc m) = let e = pow-succ' 256 m in let h = pow_above m in omega arith
 
 -- w bytes are 8 w bits
 pub pow_bits : (w : ℕ) → 256 ^ w ≡ 2 ^ (8 * w)

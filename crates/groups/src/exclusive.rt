@@ -18,12 +18,12 @@ impl<W> Exclusive<W> {
 }
 
 impl<W: Width> Group for Exclusive<W> {
-    ghost group = { λ _. exclusive W.Width.bytes };
+    ghost group = { λ _. exclusive W.Width.BYTES };
 
-    ghost lawful = { λ s. exclusive_laws W.Width.bytes W.Width.narrow };
+    ghost lawful = { λ s. exclusive_laws W.Width.BYTES W.Width.narrow };
 
     fn width(&self) -> usize {
-        W::width()
+        W::BYTES
     }
 
     fn plus(&self, a: u64, b: u64) -> u64 {

@@ -20,18 +20,18 @@ impl<W> Modular<W> {
 
 // The largest number that is as wide as W.
 fn top<W: Width>() -> u64
-    ensures { result + 1 ≡ 256 ^ W.Width.bytes }
+    ensures { result + 1 ≡ 256 ^ W.Width.BYTES }
 {
-    u64::MAX >> (64 - 8 * W::width())
+    u64::MAX >> (64 - 8 * W::BYTES)
 }
 
 impl<W: Width> Group for Modular<W> {
-    ghost group = { λ _. modular W.Width.bytes };
+    ghost group = { λ _. modular W.Width.BYTES };
 
-    ghost lawful = { λ s. modular_laws W.Width.bytes W.Width.narrow };
+    ghost lawful = { λ s. modular_laws W.Width.BYTES W.Width.narrow };
 
     fn width(&self) -> usize {
-        W::width()
+        W::BYTES
     }
 
     fn plus(&self, a: u64, b: u64) -> u64 {

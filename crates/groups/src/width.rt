@@ -1,53 +1,46 @@
 // How many bytes a number has, by the unsigned type that holds it.
-ghost use Rattle.std.specs.Prelude.{◌≡◌, ℕ};
+ghost use Rattle.std.specs.Prelude.{ℕ};
 ghost use Rattle.groups.specs.Groups.{Narrow};
-ghost use Rattle.std.proofs.Common.{rules};
+ghost use Rattle.std.proofs.Common.{lit≤};
 
+// A trait with one impl for each width, and no const parameter: a number would not say that it is one to eight, and
+// `Modular::new` and `Exclusive::new` ask nothing of their callers.
 pub trait Width {
-    ghost bytes: { ℕ };
+    const BYTES: usize;
 
-    fn width() -> usize
-        ensures { result ≡ bytes };
+    ghost BYTES: { ℕ };
 
-    ghost narrow: { Narrow bytes };
+    ghost narrow: { Narrow BYTES };
 }
 
 impl Width for u8 {
-    ghost bytes = { 1 };
+    const BYTES: usize = 1;
 
-    ghost narrow = { Prim.search rules };
+    ghost BYTES = { 1 };
 
-    fn width() -> usize {
-        1
-    }
+    ghost narrow = { (lit≤ tt, lit≤ tt) };
 }
 
 impl Width for u16 {
-    ghost bytes = { 2 };
+    const BYTES: usize = 2;
 
-    ghost narrow = { Prim.search rules };
+    ghost BYTES = { 2 };
 
-    fn width() -> usize {
-        2
-    }
+    ghost narrow = { (lit≤ tt, lit≤ tt) };
 }
 
 impl Width for u32 {
-    ghost bytes = { 4 };
+    const BYTES: usize = 4;
 
-    ghost narrow = { Prim.search rules };
+    ghost BYTES = { 4 };
 
-    fn width() -> usize {
-        4
-    }
+    ghost narrow = { (lit≤ tt, lit≤ tt) };
 }
 
 impl Width for u64 {
-    ghost bytes = { 8 };
+    const BYTES: usize = 8;
 
-    ghost narrow = { Prim.search rules };
+    ghost BYTES = { 8 };
 
-    fn width() -> usize {
-        8
-    }
+    ghost narrow = { (lit≤ tt, lit≤ tt) };
 }

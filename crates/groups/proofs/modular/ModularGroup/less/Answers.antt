@@ -3,4 +3,4 @@ use Rattle.groups.specs.Modulo.{masked_less}
 use Rattle.groups.proofs.modular.ModularGroup.less.Goals as goal
 
 pub returns : goal.returns
-returns g c = masked_less g.W.Width.bytes c.top.result g.met.W.Width.narrow c.top.ensures c.args.a c.args.b (omega arith)
+returns g c = masked_less g.W.Width.BYTES c.top.result g.W.Width.narrow c.top.ensures c.args.a c.args.b (omega arith)

@@ -14,19 +14,30 @@ pub record Peeled (lens : ℕ → ℕ) (r n : ℕ) (at : ℕ → ℕ) (rest a : 
   pub done : (b : ℕ) → b < r → a ≤ b → at b ≡ index lens r n b
   pub left : (b : ℕ) → b < a → index lens r n b ≡ index lens a rest b
 
-pub peeled_more : (lens : ℕ → ℕ) (r n : ℕ) (at : List ℕ) (rest a : ℕ) → r ≤ 4 → length at ≡ 4 → a < r → Peeled lens r n (λ b. get_or at b 0) rest (suc a) → Peeled lens r n (λ b. get_or (set at a (rest % lens a)) b 0) (rest / lens a) a
-peeled_more lens r n at rest a h4 l4 h p =
-    let w = positive (lens a) (count lens a) rest p.within in
+-- the same, with the axis before a
+peeled_at : {lens : ℕ → ℕ} {r n : ℕ} {at : ℕ → ℕ} {rest a : ℕ} → 0 < a → Peeled lens r n at rest a → Peeled lens r n at rest (suc (a - 1))
+peeled_at {lens} {r} {n} {at} {rest} {a} h p = let e : a ≡ suc (a - 1) = omega arith in subst (Peeled lens r n at rest) e p
+
+-- the axis before a is not empty
+pub peeled_full : {lens : ℕ → ℕ} {r n : ℕ} {at : ℕ → ℕ} {rest a : ℕ} → 0 < a → Peeled lens r n at rest a → 0 < lens (a - 1)
+peeled_full {lens} {r} {n} {at} {rest} {a} h p = positive (lens (a - 1)) (count lens (a - 1)) rest (peeled_at h p).within
+
+-- one axis more
+pub peeled_more : {lens : ℕ → ℕ} {r n rest a : ℕ} (at : List ℕ) → r ≤ 4 → length at ≡ 4 → 0 < a → a ≤ r → Peeled lens r n (λ b. get_or at b 0) rest a
+    → Peeled lens r n (λ b. get_or (set at (a - 1) (rest % lens (a - 1))) b 0) (rest / lens (a - 1)) (a - 1)
+peeled_more {lens} {r} {n} {rest} {a} at h4 l4 h la q =
+    let k : ℕ = a - 1 in
+    let p = peeled_at h q in
     record {
-      within = div_below rest (lens a) (count lens a) w p.within;
+      within = div_below rest (lens k) (count lens k) (peeled_full h q) p.within;
       done = λ b lb le.
           ⊎_elim
-          (λ (e : b ≡ a).
-          subst (λ v. get_or (set at a (rest % lens a)) v 0 ≡ index lens r n v) (sym e)
-          (get_or-set_same at a (rest % lens a) 0 (omega arith) ∙ sym (index_last lens a rest) ∙ sym (p.left a (omega arith))))
-          (λ (e : b ≡ a → ⊥). get_or-set_other at a b (rest % lens a) 0 e ∙ p.done b lb (omega arith))
-          (cases_eq b a);
-      left = λ b lb. p.left b (omega arith) ∙ index_rest lens a rest b (λ e. omega arith);
+          (λ (e : b ≡ k).
+          subst (λ v. get_or (set at k (rest % lens k)) v 0 ≡ index lens r n v) (sym e)
+          (get_or-set_same at k (rest % lens k) 0 (omega arith) ∙ sym (index_last lens k rest) ∙ sym (p.left k (omega arith))))
+          (λ (e : b ≡ k → ⊥). get_or-set_other at k b (rest % lens k) 0 e ∙ p.done b lb (omega arith))
+          (cases_eq b k);
+      left = λ b lb. p.left b (omega arith) ∙ index_rest lens k rest b (λ e. omega arith);
     }
 
 next : (a : ℕ) → suc a ≡ a + 1
@@ -48,7 +59,3 @@ places_more order ps k l4 h i a la =
     (λ (e : order k ≡ a). subst (λ v. get_or (set ps (order k) k) v 0 ≡ k) e (get_or-set_same ps (order k) k 0 (omega arith)) ∙ sym (cond-true (eqb (order k) a) k (place order k a) (eq-eqb (order k) a e)))
     (λ (e : order k ≡ a → ⊥). get_or-set_other ps (order k) a k 0 (λ q. e (sym q)) ∙ i a la ∙ sym (cond-false (eqb (order k) a) k (place order k a) (ne_eqb (order k) a e)))
     (cases_eq (order k) a))
-
--- the same, with the axis before a
-pub peeled_at : (lens : ℕ → ℕ) (r n : ℕ) (at : ℕ → ℕ) (rest a : ℕ) → 0 < a → Peeled lens r n at rest a → Peeled lens r n at rest (suc (a - 1))
-peeled_at lens r n at rest a h p = let e : a ≡ suc (a - 1) = omega arith in subst (Peeled lens r n at rest) e p

@@ -1,7 +1,7 @@
 -- An index and a number give each other, and a permuted array has as many elements.
 use Rattle.std.proofs.Common.{◌≡◌, ℕ, zero, suc, ◌+◌, ◌*◌, ◌/◌, ◌%◌, ◌<◌, ◌≤◌, Bool, true, false, cond, eqb, sym, refl, ap, ◌∙◌, subst, ⊎_elim, mul_assoc, mul_comm, arith}
 use Rattle.std.proofs.lemmas.Nat.{div-mul-add, mod-mul-add, mul-le, div_below, mod_below, div-add-mod'}
-use Rattle.std.proofs.lemmas.Bool.{cond-true, cond-false, eq-eqb, ne_eqb, cases_eq}
+use Rattle.std.proofs.lemmas.Bool.{cond-true, cond-false, eq-eqb, ne_eqb, cases_eq, cases_lt}
 use Rattle.form.specs.Shapes.{count}
 use Rattle.stage.proofs.Gathers.{positive, inside}
 use Rattle.axes.specs.Axes.{offset, index, Indexed, Numbered}
@@ -129,6 +129,51 @@ count_permuted f order (suc r) s = go (λ o z. count_permuted f o r z) (s r (ome
         let b : f (order p) ≡ f r = ap f e in
         cc)
         (cases_eq p r)
+
+-- one factor is 2, so the product is not 1
+twice : (g : ℕ → ℕ) (k r : ℕ) → k < r → g k ≡ 2 → count g r ≡ 1 → ⊥
+twice g k r h e o =
+    let c = changed g k 1 r h in
+    let m : count (λ j. cond (eqb j k) 1 (g j)) r * 2 ≡ 1 * 1 = subst (λ v. count (λ j. cond (eqb j k) 1 (g j)) r * v ≡ 1 * 1) e (c ∙ ap (λ v. v * 1) o) in
+    omega arith
+
+ones : (r : ℕ) → count (λ _. 1) r ≡ 1
+ones zero = refl
+ones (suc r) = ap (λ v. v * 1) (ones r)
+
+-- 2 for one number, and 1 for all others
+mark : ℕ → ℕ → ℕ
+mark v x = cond (eqb x v) 2 1
+
+marked : (v : ℕ) → mark v v ≡ 2
+unfolding mark
+marked v = cond-true (eqb v v) 2 1 (eq-eqb v v refl)
+
+-- an order that has each axis has nothing else
+pub onto_within : (order : ℕ → ℕ) (r k : ℕ) → Onto order r → k < r → order k < r
+unfolding mark
+onto_within order r k s h =
+    ⊎_elim
+    (λ (l : order k < r). l)
+    (λ (l : r ≤ order k).
+    let none : count (mark (order k)) r ≡ 1 = count_same (mark (order k)) (λ _. 1) r (λ x m. cond-false (eqb x (order k)) 2 1 (ne_eqb x (order k) (λ q. omega arith))) ∙ ones r in
+    absurd (twice (λ j. mark (order k) (order j)) k r h (marked (order k)) (count_permuted (mark (order k)) order r s ∙ none)))
+    (cases_lt (order k) r)
+
+-- and has it once
+pub onto_once : (order : ℕ → ℕ) (r a b : ℕ) → Onto order r → a < r → b < r → order b ≡ order a → b ≡ a
+unfolding mark
+onto_once order r a b s la lb e =
+    ⊎_elim
+    (λ (q : b ≡ a). q)
+    (λ (q : b ≡ a → ⊥).
+    let g : ℕ → ℕ = λ j. mark (order a) (order j) in
+    let two : count (mark (order a)) r * 1 ≡ count (λ _. 1) r * 2 = changed (λ _. 1) (order a) 2 r (onto_within order r a s la) in
+    let all : count g r ≡ 2 = let p = count_permuted (mark (order a)) order r s in let o = ones r in omega arith in
+    let c = changed g a 1 r la in
+    let one : count (λ j. cond (eqb j a) 1 (g j)) r ≡ 1 = let m : count (λ j. cond (eqb j a) 1 (g j)) r * 2 ≡ 2 * 1 = subst (λ v. count (λ j. cond (eqb j a) 1 (g j)) r * v ≡ 2 * 1) (marked (order a)) (c ∙ ap (λ v. v * 1) all) in omega arith in
+    absurd (twice (λ j. cond (eqb j a) 1 (g j)) b r lb (cond-false (eqb b a) 1 (g b) (ne_eqb b a q) ∙ ap (mark (order a)) e ∙ marked (order a)) one))
+    (cases_eq b a)
 
 -- fewer axes, no more elements
 pub count_le : (lens : ℕ → ℕ) (a r : ℕ) → a ≤ r → 1 ≤ count lens r → (1 ≤ count lens a) × (count lens a ≤ count lens r)

@@ -1,111 +1,84 @@
 -- What encoding and decoding in place leave.
-use Rattle.std.proofs.Common.{◌≡◌, ℕ, ◌*◌, ◌<◌, ◌≤◌, Bool, List, take, None, Ok, Result, sym, ap, ◌∙◌, subst}
+use Rattle.std.proofs.Common.{◌≡◌, ℕ, ◌<◌, Bool, List, take, None, Ok, Result, sym, ap, ◌∙◌, subst}
 use Rattle.form.specs.declared.array_form.Form.{Form}
+use Rattle.form.specs.declared.fault.Fault.{Fault}
 use Rattle.form.specs.Forms.{element_size}
 use Rattle.form.specs.Refusals.{Refusal, unless, only_if}
-use Rattle.form.specs.Shapes.{on, count}
-use Rattle.form.proofs.Shapes.{positive}
-use Rattle.stage.specs.Arrays.{element_count, array_bytes}
+use Rattle.form.specs.Shapes.{on}
+use Rattle.stage.specs.Arrays.{array_bytes}
 use Rattle.stage.specs.Calls.{InPlace}
+use Rattle.stage.specs.Single.{Coding}
 use Rattle.stage.specs.Gathers.{gathered, by_element}
-use Rattle.stage.proofs.Refusing.{unless_ok, in_place}
+use Rattle.stage.proofs.Refusing.{unless_ok}
 use Rattle.axes.specs.Axes.{place, seat, Follows}
 use Rattle.axes.proofs.Seats.{seat_same}
-use Rattle.transpose.specs.Transpose.{new_lengths, source, target, transposing, with_lengths}
+use Rattle.transpose.specs.declared.transpose_codec.TransposeCodec.{TransposeCodec}
+use Rattle.transpose.specs.Transpose.{new_lengths, target, transposing}
 use Rattle.transpose.specs.Orders.{Ordered}
-use Rattle.transpose.specs.Transposed.{form_facts, not_refused, out, home, same_count, turned_is, coded_bytes}
+use Rattle.transpose.specs.Transposed.{not_refused, out, home, same_volume, turned, turned_is}
 
--- what gathering asks for
-pub record Ready (of by q : List ℕ) (d size elements : ℕ) : Type 0 where
-  pub few : d ≤ 4
-  pub small : elements * size ≤ 4096
-  pub narrow : 1 ≤ size
-  pub follows : Follows (on of) (on by) (on q) d
-  pub into : count (on by) d ≡ elements
-  pub whole : count (on of) d ≡ elements
+-- a codec's entries are an order
+ordered_in : (t : TransposeCodec) → Ordered (on t.order) t.dims
+ordered_in t = record { ranged = t.ranged; found = t.found }
 
 -- the codec answered the new form g for f
-module _ (order : List ℕ) (d : ℕ) (f g : Form) (p : Ordered (on order) d) (r : ◌≡◌ {A = Result Form Refusal} (Ok g) (unless ((transposing order d).refusal f) (Ok ((transposing order d).coded f)))) where
-  taken : (transposing order d).refusal f ≡ None
-  taken = (unless_ok ((transposing order d).refusal f) (Ok ((transposing order d).coded f)) g r).0
+module _ (t : TransposeCodec) (f g : Form) (r : ◌≡◌ {A = Result Form Refusal} (Ok g) (unless ((transposing t.order t.dims).refusal f) (Ok ((transposing t.order t.dims).coded f)))) where
+  abbrev coding : Coding Form Form
+  coding = transposing t.order t.dims
 
-  dims_same : d ≡ f.dims
-  dims_same = not_refused order d f taken
+  abbrev order : List ℕ
+  order = t.order
+
+  taken : coding.refusal f ≡ None
+  taken = (unless_ok (coding.refusal f) (Ok (coding.coded f)) g r).0
+
+  pub dims_same : t.dims ≡ f.dims
+  dims_same = not_refused order t.dims f taken
 
   ordered : Ordered (on order) f.dims
-  ordered = subst (Ordered (on order)) dims_same p
+  ordered = subst (Ordered (on order)) dims_same (ordered_in t)
 
-  new_form : g ≡ with_lengths f (new_lengths order f)
-  new_form = let e = (unless_ok ((transposing order d).refusal f) (Ok ((transposing order d).coded f)) g r).1 in cc
+  new_is : g ≡ turned order f ordered
+  new_is = (let e = (unless_ok (coding.refusal f) (Ok (coding.coded f)) g r).1 in cc) ∙ sym (turned_is order f ordered)
 
-  lengths_is : g.lengths ≡ new_lengths order f
-  lengths_is = ap (λ (h : Form). h.lengths) (new_form ∙ sym (turned_is order f ordered))
+  -- so nothing refuses before the room
+  answered : (b : Bool) (n m : ℕ) (x y behind : List ℕ) (a : Result ℕ Fault) → n ≡ m → x ≡ y
+      → InPlace (only_if b 14 (Ok n)) x behind a
+      → InPlace (unless (coding.refusal f) (only_if b 14 (Ok m))) y behind a
+  answered b n m x y behind a e q h = record {
+    answer_is = h.answer_is ∙ ap (λ v. only_if b 14 (Ok v)) e ∙ sym (ap (λ o. unless o (only_if b 14 (Ok m))) taken);
+    bytes = λ k w. h.bytes k w ∙ q;
+  }
 
-  -- the count n that is answered is that of the form, and so that of the new form
-  counted : (m n : ℕ) → n ≡ m → ◌≡◌ {A = Result ℕ Refusal} (Ok n) (unless ((transposing order d).refusal f) (Ok m))
-  counted m n e = let t = taken in rw t (ap Ok e)
+  pub dims_home : t.dims ≡ g.dims
+  dims_home = dims_same ∙ sym (ap (λ (h : Form). h.dims) new_is)
 
-  module _ (size elements : ℕ) (es : size ≡ element_size f) (ee : elements ≡ element_count f) where
-    bytes_is : elements * size ≡ array_bytes f
-    bytes_is = ap (λ v. v * size) ee ∙ ap (λ v. element_count f * v) es
+  pub follows_home : Follows (on g.lengths) (on f.lengths) (on order) g.dims
+  follows_home = subst (λ (h : Form). Follows (on h.lengths) (on f.lengths) (on order) h.dims) (sym new_is) (home order f ordered)
 
-    narrow : 1 ≤ size
-    narrow = let k = (positive (element_count f) (element_size f) (form_facts f).full).1 in subst (λ v. 1 ≤ v) (sym es) k
+  pub decoded_in_place : (b : Bool) (before behind : List ℕ) (a : Result ℕ Fault)
+      → InPlace (only_if b 14 (Ok (array_bytes g))) (gathered (by_element (seat (on g.lengths) (on f.lengths) (on order) g.dims) (element_size g)) (array_bytes g) (take (array_bytes g) before)) behind a
+      → InPlace (unless (coding.refusal f) (only_if b 14 (Ok (array_bytes f)))) (coding.decoded f (take (array_bytes (coding.coded f)) before)) behind a
+  decoded_in_place b before behind a =
+      let same = same_volume order f ordered in
+      answered b (array_bytes g) (array_bytes f) _ _ behind a (ap array_bytes new_is ∙ same)
+      (ap (λ (h : Form). gathered (by_element (seat (on h.lengths) (on f.lengths) (on order) h.dims) (element_size h)) (array_bytes h) (take (array_bytes h) before)) new_is
+      ∙ ap (λ n. gathered (by_element (target order f) (element_size f)) n (take (array_bytes (turned order f ordered)) before)) same
+      ∙ ap (λ (h : Form). coding.decoded f (take (array_bytes h) before)) (turned_is order f ordered))
 
-    small : elements * size ≤ 4096
-    small = subst (λ v. v ≤ 4096) (sym bytes_is) (form_facts f).fits
+  module _ (ps : List ℕ) (k : (a : ℕ) → a < t.dims → on ps a ≡ place (on order) t.dims a) where
+    placed : (a : ℕ) → a < f.dims → on ps a ≡ place (on order) f.dims a
+    placed = subst (λ n. (a : ℕ) → a < n → on ps a ≡ place (on order) n a) dims_same k
 
-    new_count : count (on g.lengths) f.dims ≡ elements
-    new_count = ap (λ v. count (on v) f.dims) lengths_is ∙ same_count order f ordered ∙ sym ee
+    pub follows_out : Follows (on f.lengths) (on g.lengths) (on ps) f.dims
+    follows_out a l =
+        let o = out order f ordered a l in
+        (subst (λ v. v < f.dims) (sym (placed a l)) o.0, ap (on g.lengths) (placed a l) ∙ ap (λ (h : Form). on h.lengths (place (on order) f.dims a)) new_is ∙ o.1)
 
-    pub ready_home : Ready g.lengths f.lengths order f.dims size elements
-    ready_home = record {
-      few = (form_facts f).few;
-      small = small;
-      narrow = narrow;
-      follows = subst (λ v. Follows (on v) (on f.lengths) (on order) f.dims) (sym lengths_is) (home order f ordered);
-      into = sym ee;
-      whole = new_count;
-    }
-
-    pub decoded_in_place : (b : Bool) (n : ℕ) (before behind : List ℕ) → n ≡ array_bytes f
-        → ◌≡◌ {A = Result Unit Refusal} (Ok tt) (only_if b 14 (Ok tt))
-        → take (elements * size) behind ≡ gathered (by_element (seat (on g.lengths) (on f.lengths) (on order) f.dims) size) (elements * size) (take (elements * size) before)
-        → InPlace (unless ((transposing order d).refusal f) (only_if b 14 (Ok (array_bytes f)))) ((transposing order d).decoded f (take (array_bytes ((transposing order d).coded f)) before)) behind (Ok n)
-    decoded_in_place b n before behind e q h =
-        in_place ((transposing order d).refusal f) b (array_bytes f) n _ behind (counted (array_bytes f) n e) q
-        (λ _.
-        ap (λ v. take v behind) (e ∙ sym bytes_is) ∙ h
-        ∙ ap (λ v. gathered (by_element (seat (on v) (on f.lengths) (on order) f.dims) size) (elements * size) (take (elements * size) before)) lengths_is
-        ∙ ap (λ v. gathered (by_element (target order f) v) (elements * size) (take (elements * size) before)) es
-        ∙ ap (λ v. gathered (by_element (target order f) (element_size f)) v (take v before)) bytes_is
-        ∙ ap (λ v. (transposing order d).decoded f (take v before)) (sym (coded_bytes order f ordered)))
-
-    module _ (ps : List ℕ) (k : (a : ℕ) → a < d → on ps a ≡ place (on order) d a) where
-      placed : (a : ℕ) → a < f.dims → on ps a ≡ place (on order) f.dims a
-      placed = subst (λ n. (a : ℕ) → a < n → on ps a ≡ place (on order) n a) dims_same k
-
-      pub ready_out : Ready f.lengths g.lengths ps f.dims size elements
-      ready_out = record {
-        few = (form_facts f).few;
-        small = small;
-        narrow = narrow;
-        follows = λ a l.
-            let o = out order f ordered a l in
-            (subst (λ v. v < f.dims) (sym (placed a l)) o.0, ap (on g.lengths) (placed a l) ∙ ap (λ v. on v (place (on order) f.dims a)) lengths_is ∙ o.1);
-        into = new_count;
-        whole = sym ee;
-      }
-
-      pub encoded_in_place : (b : Bool) (n : ℕ) (before behind : List ℕ) → n ≡ array_bytes f
-          → ◌≡◌ {A = Result Unit Refusal} (Ok tt) (only_if b 14 (Ok tt))
-          → take (elements * size) behind ≡ gathered (by_element (seat (on f.lengths) (on g.lengths) (on ps) f.dims) size) (elements * size) (take (elements * size) before)
-          → InPlace (unless ((transposing order d).refusal f) (only_if b 14 (Ok (array_bytes ((transposing order d).coded f))))) ((transposing order d).encoded f (take (array_bytes f) before)) behind (Ok n)
-      encoded_in_place b n before behind e q h =
-          in_place ((transposing order d).refusal f) b (array_bytes ((transposing order d).coded f)) n _ behind (counted _ n (e ∙ sym (coded_bytes order f ordered))) q
-          (λ _.
-          ap (λ v. take v behind) (e ∙ sym bytes_is) ∙ h
-          ∙ ap (λ v. gathered (by_element (seat (on f.lengths) (on v) (on ps) f.dims) size) (elements * size) (take (elements * size) before)) lengths_is
-          ∙ ap (λ v. gathered (by_element v size) (elements * size) (take (elements * size) before)) (seat_same (on f.lengths) (on (new_lengths order f)) (on ps) (place (on order) f.dims) f.dims placed)
-          ∙ ap (λ v. gathered (by_element (source order f) v) (elements * size) (take (elements * size) before)) es
-          ∙ ap (λ v. gathered (by_element (source order f) (element_size f)) v (take v before)) bytes_is)
+    pub encoded_in_place : (b : Bool) (before behind : List ℕ) (a : Result ℕ Fault)
+        → InPlace (only_if b 14 (Ok (array_bytes f))) (gathered (by_element (seat (on f.lengths) (on g.lengths) (on ps) f.dims) (element_size f)) (array_bytes f) (take (array_bytes f) before)) behind a
+        → InPlace (unless (coding.refusal f) (only_if b 14 (Ok (array_bytes (coding.coded f))))) (coding.encoded f (take (array_bytes f) before)) behind a
+    encoded_in_place b before behind a =
+        answered b (array_bytes f) (array_bytes (coding.coded f)) _ _ behind a (sym (same_volume order f ordered) ∙ ap array_bytes (turned_is order f ordered))
+        (ap (λ (h : Form). gathered (by_element (seat (on f.lengths) (on h.lengths) (on ps) f.dims) (element_size f)) (array_bytes f) (take (array_bytes f) before)) new_is
+        ∙ ap (λ s. gathered (by_element s (element_size f)) (array_bytes f) (take (array_bytes f) before)) (seat_same (on f.lengths) (on (new_lengths order f)) (on ps) (place (on order) f.dims) f.dims placed))

@@ -1,11 +1,33 @@
 -- What the loop that gathers elements keeps.
-use Rattle.std.proofs.Common.{◌≡◌, ℕ, suc, ◌+◌, ◌-◌, ◌*◌, ◌<◌, ◌≤◌, List, ◌++◌, length, get_or, take, drop, sym, ap, ◌∙◌, ⊎_elim, suc-mul, arith}
+use Rattle.std.proofs.Common.{◌≡◌, ℕ, suc, ◌+◌, ◌-◌, ◌*◌, ◌<◌, ◌≤◌, List, ◌++◌, length, get_or, take, drop, sym, ap, ◌∙◌, subst, ⊎_elim, suc-mul, arith}
 use borrow.Rule.Slice.PartMut.{put_mid}
 use Rattle.std.proofs.lemmas.Nat.{mul-le}
 use Rattle.std.proofs.lemmas.List.{ext_get_or, get_or_append_left, get_or-append_right, get_or-take, get_or-drop, length-append, append_assoc, length-take-le, length-drop, take_at, drop-drop}
 use Rattle.std.proofs.lemmas.Bool.{cases_lt}
+use Rattle.form.specs.Forms.{element_size}
+use Rattle.form.specs.Shapes.{on, count}
+use Rattle.form.proofs.Shapes.{positive}
+use Rattle.stage.specs.Arrays.{element_count, array_bytes}
 use Rattle.stage.specs.Gathers.{gathered, by_element}
-use Rattle.stage.proofs.Gathers.{length-gathered, get_or-gathered, element_byte, inside}
+use Rattle.axes.specs.Axes.{offset, place}
+use Rattle.axes.proofs.Numbers.{Onto, count_same, count_permuted}
+use Rattle.axes.proofs.Seats.{place_below, seat_below}
+use Rattle.axes.proofs.Loops.{offset_small, offset_more}
+use Rattle.transpose.specs.declared.gather.Gathering.{Gathering}
+use Rattle.transpose.specs.Gatherings.{seat_in}
+use Rattle.transpose.specs.Transposed.{form_facts}
+use Rattle.stage.proofs.Gathers.{length-gathered, get_or-gathered, element_byte}
+
+-- no more elements than bytes
+few_elements : (c s : ℕ) → 1 ≤ s → c * s ≤ 4096 → c ≤ 4096
+few_elements c s h k = let m = mul-le c 1 c s (omega arith) h in omega arith
+
+-- an element stands among the elements
+pub element_inside : (s c e : ℕ) → e < c → e * s + s ≤ c * s
+element_inside s c e h =
+    let m = suc-mul e s in
+    let l = mul-le (suc e) s c s (omega arith) (omega arith) in
+    omega arith
 
 -- a part of one list over a part of another
 pub copied : (source target part : List ℕ) (from to n k j : ℕ) → k ≡ n → j ≡ n → part ≡ take j (drop from source) → put_mid to k target part ≡ take to target ++ (take n (drop from source) ++ drop (to + n) target)
@@ -13,9 +35,62 @@ copied source target part from to n k j ek ej e =
     ap (λ v. take to target ++ (v ++ drop k (drop to target))) (e ∙ ap (λ v. take v (drop from source)) ej)
     ∙ ap (λ v. take to target ++ (take n (drop from source) ++ v)) (ap (λ v. drop v (drop to target)) ek ∙ drop-drop n to target)
 
--- no more elements than bytes
-pub few_elements : (c s : ℕ) → 1 ≤ s → c * s ≤ 4096 → c ≤ 4096
-few_elements c s h k = let m = mul-le c 1 c s (omega arith) h in omega arith
+-- the items of a turn of a loop over two lists side by side, the one after k others
+abbrev pub Turn : List ℕ → List ℕ → ℕ → ℕ → ℕ → Type 0
+Turn xs ys k x y = (k < length xs) × (k < length ys) × ((d : ℕ) → x ≡ get_or xs k d) × ((d : ℕ) → y ≡ get_or ys k d)
+
+module _ (g : Gathering) where
+  pub few_axes : g.of.dims ≤ 4
+  few_axes = (form_facts g.of).few
+
+  -- the two arrays have as many elements
+  pub same_elements : count (on g.by.lengths) g.of.dims ≡ element_count g.of
+  same_elements =
+      let o = g.order in
+      let onto : Onto (on o.order) g.of.dims = subst (Onto (on o.order)) g.dims (λ a l. (place (on o.order) o.dims a, place_below (on o.order) o.dims a o.some, o.found a l)) in
+      sym (count_permuted (on g.by.lengths) (on o.order) g.of.dims onto) ∙ count_same _ (on g.of.lengths) g.of.dims (λ a l. (g.follows a l).1)
+
+  pub some_elements : (1 ≤ element_count g.of) × (element_count g.of ≤ 4096)
+  some_elements =
+      let f = form_facts g.of in
+      let p = positive (element_count g.of) (element_size g.of) f.full in
+      (p.0, few_elements (element_count g.of) (element_size g.of) p.1 f.fits)
+
+  -- one axis more of an offset
+  pub record Step (at : List ℕ) (n k len axis : ℕ) : Type 0 where
+    pub small : n * len + on at axis < 4096
+    pub inside : axis < 4
+    pub more : n * len + on at axis ≡ offset (on g.of.lengths) (λ a. on at (on g.order.order a)) (k + 1)
+
+  offset_step : (at : List ℕ) (n k len axis : ℕ) → ((a : ℕ) → a < g.of.dims → on at (on g.order.order a) < on g.of.lengths a)
+      → k < g.of.dims → len ≡ on g.of.lengths k → axis ≡ on g.order.order k
+      → n ≡ offset (on g.of.lengths) (λ a. on at (on g.order.order a)) k
+      → Step at n k len axis
+  offset_step at n k len axis h l el ea e =
+      let i : ℕ → ℕ = λ a. on at (on g.order.order a) in
+      let same : n * len + on at axis ≡ n * on g.of.lengths k + i k = ap (λ v. n * v + on at axis) el ∙ ap (λ v. n * on g.of.lengths k + on at v) ea in
+      record {
+        small = subst (λ v. v < 4096) (sym same) (offset_small (on g.of.lengths) i k g.of.dims n l some_elements.0 some_elements.1 h e);
+        inside = let r = (g.follows k l).0 in let f = few_axes in omega arith;
+        more = same ∙ offset_more (on g.of.lengths) i k n e;
+      }
+
+  -- the same in a loop over the lengths and the order side by side
+  pub offset_turn : (at order : List ℕ) (n k len axis : ℕ) → ((a : ℕ) → a < g.of.dims → on at (on g.order.order a) < on g.of.lengths a)
+      → order ≡ take g.order.dims g.order.order → length order ≡ g.order.dims
+      → n ≡ offset (on g.of.lengths) (λ a. on at (on g.order.order a)) k
+      → Turn g.of.lengths order k len axis
+      → Step at n k len axis
+  offset_turn at order n k len axis h e le i t =
+      let l : k < g.order.dims = omega (arith, t.1) in
+      let d = g.dims in
+      offset_step at n k len axis h (omega arith) (t.2 0) (t.3 0 ∙ ap (λ v. get_or v k 0) e ∙ get_or-take g.order.dims g.order.order k 0 l) i
+
+  -- the element that is read lies in the array
+  pub seat_inside : (size n m : ℕ) → size ≡ element_size g.of → n < element_count g.of → m ≡ seat_in g n → m * size + size ≤ array_bytes g.of
+  seat_inside size n m q h e =
+      let b = seat_below (on g.of.lengths) (on g.by.lengths) (on g.order.order) g.of.dims n g.follows (subst (λ v. n < v) (sym same_elements) h) in
+      subst (λ v. m * v + v ≤ array_bytes g.of) (sym q) (element_inside (element_size g.of) (element_count g.of) m (omega arith))
 
 -- the first e elements stand in front
 abbrev pub Gathered : (ℕ → ℕ) → ℕ → ℕ → List ℕ → List ℕ → Type 0
@@ -41,31 +116,19 @@ gathered_more g s e x part l h =
     ∙ ap (λ v. get_or x v 0) (sym (element_byte g s e (k - e * s) b) ∙ ap f z) ∙ sym right)
     (cases_lt k (e * s)))
 
--- an element stands among the elements
-pub element_inside : (s c e : ℕ) → e < c → e * s + s ≤ c * s
-element_inside s c e h =
-    let m = suc-mul e s in
-    let l = mul-le (suc e) s c s (omega arith) (omega arith) in
-    omega arith
-
-pub element_next : (g : ℕ → ℕ) (s c e m : ℕ) (source out out' : List ℕ) → e < c → m ≡ g e → m < c → c * s ≤ length source → c * s ≤ length out
+pub element_next : (g : ℕ → ℕ) (s c e m : ℕ) (source out out' : List ℕ) → e < c → m ≡ g e → m * s + s ≤ length source → c * s ≤ length out
     → out' ≡ take (e * s) out ++ (take s (drop (m * s) source) ++ drop (e * s + s) out)
-    → Gathered g s e (take (c * s) source) out → Gathered g s (e + 1) (take (c * s) source) out'
-element_next g s c e m source out out' le q lm ls lo w i =
-    let x : List ℕ = take (c * s) source in
+    → Gathered g s e source out → Gathered g s (e + 1) source out'
+element_next g s c e m source out out' le q lm lo w i =
     let part : List ℕ = take s (drop (m * s) source) in
     let ie = element_inside s c e le in
-    let im = element_inside s c m lm in
     let n : (e + 1) * s ≡ e * s + s = let z : suc e ≡ e + 1 = omega arith in ap (λ v. v * s) (sym z) ∙ suc-mul e s in
     let lt : length (take (e * s) out) ≡ e * s = length-take-le (e * s) out (omega arith) in
     let lpart : length part ≡ s = length-take-le s (drop (m * s) source) (simp length-drop (omega arith)) in
     let la = length-append (take (e * s) out) part in
     let assoc : out' ≡ (take (e * s) out ++ part) ++ drop (e * s + s) out = w ∙ simp append_assoc in
     let front : take (e * s + s) out' ≡ take (e * s) out ++ part = ap (take (e * s + s)) assoc ∙ take_at (take (e * s) out ++ part) (drop (e * s + s) out) (e * s + s) (omega arith) in
-    let at : (b : ℕ) → b < s → get_or part b 0 ≡ get_or x (g e * s + b) 0 =
-    λ b lb.
-    let j : m * s + b < c * s = inside m s b c lm lb in
-    get_or-take s (drop (m * s) source) b 0 lb ∙ get_or-drop (m * s) source b 0 ∙ sym (get_or-take (c * s) source (m * s + b) 0 j)
-    ∙ ap (λ v. get_or x (v * s + b) 0) q in
-    ap (λ v. take v out') n ∙ front ∙ ap (λ v. v ++ part) i ∙ gathered_more g s e x part lpart at
-    ∙ ap (λ v. gathered (by_element g s) v x) (sym n)
+    let at : (b : ℕ) → b < s → get_or part b 0 ≡ get_or source (g e * s + b) 0 =
+    λ b lb. get_or-take s (drop (m * s) source) b 0 lb ∙ get_or-drop (m * s) source b 0 ∙ ap (λ v. get_or source (v * s + b) 0) q in
+    ap (λ v. take v out') n ∙ front ∙ ap (λ v. v ++ part) i ∙ gathered_more g s e source part lpart at
+    ∙ ap (λ v. gathered (by_element g s) v source) (sym n)

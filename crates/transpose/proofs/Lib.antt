@@ -1,2 +1,3 @@
+pub mod Orders
 pub mod Gathering
 pub mod Calls

@@ -1,3 +1,4 @@
 pub mod Transpose
 pub mod Transposed
 pub mod Orders
+pub mod Gatherings

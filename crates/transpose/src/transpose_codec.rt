@@ -1,22 +1,23 @@
 // The transpose codec: the axes of an array in another order.
-ghost use Rattle.std.specs.Prelude.{◌≡◌, ℕ, ◌<◌, ◌≤◌, length, take, Ok, Err};
+ghost use Rattle.std.specs.Prelude.{◌≡◌, ℕ, ◌<◌, ◌≤◌, ◌↔◌, length, take, IsOk, IfOk, IfErr};
 ghost use Rattle.form.specs.Refusals.{refusal, plain};
 ghost use Rattle.form.specs.Shapes.{on};
 ghost use Rattle.axes.specs.Axes.{place};
-ghost use Rattle.transpose.specs.Transpose.{Permutes, new_length, new_lengths, transposing, Turns, Goes};
+ghost use Rattle.transpose.specs.Transpose.{Permutes, new_lengths, transposing, Turns, Goes};
 ghost use Rattle.transpose.specs.Transposed.{transposing_laws, transposing_arrays};
 
-use crate::axis_order::{is_order, padded, places_of};
-use crate::gather::gather_front;
+use crate::axis_order::is_order;
+use crate::gather::Gathering;
 use form::array_form::Form;
 use form::fault::Fault;
 use stage::array_to_array::SingleArrayToArrayCodec;
 use stage::capability::PartialDecoderCapability;
 use stage::codec::Representation;
-use stage::room::room;
+use stage::room::enough;
 use stage::single::SingleCodec;
 
-// The first `dims` entries are the order.
+// An order of the axes, in the first `dims` entries: axis a of the encoded array is axis order[a] of the decoded one.
+// An array with a count, since the codec is Copy and an ArrayVec is not.
 #[derive(Clone, Copy)]
 pub struct TransposeCodec {
     order: [usize; 4],
@@ -30,19 +31,19 @@ pub struct TransposeCodec {
 impl TransposeCodec {
     // A transposition by an order of one to four axes.
     pub fn new(order: &[usize]) -> Result<TransposeCodec, Fault>
-        ensures { elim result [ Ok t ↦ (take t.dims t.order ≡ order.now) × (t.dims ≡ length order.now) × Permutes (on order.now) (length order.now) | Err e ↦ (refusal e ≡ plain 7) × (Permutes (on order.now) (length order.now) → ⊥) ] }
+        ensures ordered { IsOk result ↔ Permutes (on order.now) (length order.now) }
+        ensures dims { IfOk result (λ t. t.dims ≡ length order.now) }
+        ensures entries { IfOk result (λ t. take t.dims t.order ≡ order.now) }
+        ensures refusal { IfErr result (λ e. refusal e ≡ plain 7) }
     {
-        let dims = order.len();
-        if (dims < 1) | (dims > 4) {
+        if !is_order(order) {
             return Err(Fault::AxisOrder);
         }
-        let entries = padded(order);
-        if !is_order(entries, dims) {
-            return Err(Fault::AxisOrder);
-        }
+        let mut entries = [0; 4];
+        entries[..order.len()].copy_from_slice(order);
         Ok(TransposeCodec {
             order: entries,
-            dims,
+            dims: order.len(),
         })
     }
 
@@ -51,32 +52,35 @@ impl TransposeCodec {
         ensures len { length result.now ≡ self.now.dims }
         ensures permutes { Permutes (on result.now) self.now.dims }
     {
-        &self.order[0..self.dims]
+        &self.order[..self.dims]
     }
-}
 
-// The new length of an axis.
-fn new_length(order: [usize; 4], form: &Form, a: usize) -> usize
-    requires few { form.now.dims ≤ 4 }
-    requires ranged { (a : ℕ) → a < form.now.dims → on order a < form.now.dims }
-    ensures { result ≡ new_length order form.now a }
-{
-    if a < form.dims {
-        form.lengths[order[a]]
-    } else {
-        1
+    // The order that turns the axes back: the place of each axis in this one.
+    fn inverse(&self) -> TransposeCodec
+        ensures dims { result.dims ≡ self.now.dims }
+        ensures places { (a : ℕ) → a < self.now.dims → on result.order a ≡ place (on self.now.order) self.now.dims a }
+    {
+        let mut order = [0; 4];
+        for (k, axis) in self.order().iter().enumerate() {
+            order[*axis] = k;
+        }
+        TransposeCodec {
+            order,
+            dims: self.dims,
+        }
     }
-}
 
-fn new_lengths(codec: &TransposeCodec, form: &Form) -> [usize; 4]
-    requires { codec.now.dims ≡ form.now.dims }
-    ensures { result ≡ new_lengths codec.now.order form.now }
-{
-    let mut lengths = [1; 4];
-    for a in 0..4 {
-        lengths[a] = new_length(codec.order, form, a);
+    // The lengths of an array whose axes are put into this order.
+    fn new_lengths(&self, form: &Form) -> [usize; 4]
+        requires { self.now.dims ≡ form.now.dims }
+        ensures { result ≡ new_lengths self.now.order form.now }
+    {
+        let mut lengths = [1; 4];
+        for (a, axis) in self.order().iter().enumerate() {
+            lengths[a] = form.lengths[*axis];
+        }
+        lengths
     }
-    lengths
 }
 
 impl SingleCodec for TransposeCodec {
@@ -100,7 +104,7 @@ impl SingleCodec for TransposeCodec {
             return Err(Fault::Dimensions);
         }
         Ok(Form {
-            lengths: new_lengths(self, form),
+            lengths: self.new_lengths(form),
             dims: form.dims,
             data_type: form.data_type,
             fill: form.fill,
@@ -109,41 +113,27 @@ impl SingleCodec for TransposeCodec {
 
     fn encode(&self, form: &Form, buf: &mut [u8], scratch: &mut [u8]) -> Result<usize, Fault> {
         let new = self.coded(form)?;
-        room(buf, scratch)?;
-        gather_front(
-            form.lengths,
-            new.lengths,
-            places_of(self.order, self.dims),
-            form.dims,
-            form.data_type.size(),
-            form.elements(),
-            buf,
-            scratch,
-        );
-        Ok(form.bytes())
+        let gathering = Gathering {
+            of: *form,
+            by: new,
+            order: self.inverse(),
+        };
+        gathering.gather_in_place(buf, scratch)
     }
 
     fn decode(&self, form: &Form, buf: &mut [u8], scratch: &mut [u8]) -> Result<usize, Fault> {
         let new = self.coded(form)?;
-        room(buf, scratch)?;
-        gather_front(
-            new.lengths,
-            form.lengths,
-            self.order,
-            form.dims,
-            form.data_type.size(),
-            form.elements(),
-            buf,
-            scratch,
-        );
-        Ok(form.bytes())
+        let gathering = Gathering {
+            of: new,
+            by: *form,
+            order: *self,
+        };
+        gathering.gather_in_place(buf, scratch)
     }
 
     fn test(&self, form: &Form, buf: &[u8]) -> Result<bool, Fault> {
-        let _new = self.coded(form)?;
-        if buf.len() < 4096 {
-            return Err(Fault::BufferShort);
-        }
+        self.coded(form)?;
+        enough(buf)?;
         Ok(true)
     }
 }

@@ -1,24 +1,13 @@
-use Rattle.std.proofs.Common.{◌<◌, get_or, ap, ◌∙◌, arith, rules}
-use Rattle.form.specs.Shapes.{on}
-use Rattle.axes.proofs.Seats.{place_below}
-use Rattle.transpose.specs.Orders.{ordered_by}
+use Rattle.std.proofs.Common.{◌≤◌, nat_eq, length, arith, rules, tests}
+use Rattle.std.specs.List.{list_any}
+use Rattle.std.proofs.lemmas.Iterator.{YieldsList-from_range}
+use Rattle.std.proofs.lemmas.Iterator.Search.{all_from_yields_List}
+use Rattle.transpose.proofs.Orders.{order_tested}
 use Rattle.transpose.proofs.axis_order.is_order.Goals as goal
 
-pub offset_bounds-order-places : goal.offset_bounds-order-places
-offset_bounds-order-places c =
-    let e = c.places_of-places.ensures c.loop-k.k c.loop-k-test.true in
-    let h = place_below (on c.args.order) c.args.dims c.loop-k.k c.requires.some in
-    let l : get_or c.places_of-places.result c.loop-k.k 0 < 4 = omega arith in
-    search rules
-
-pub bounds-order-places : goal.bounds-order-places
-bounds-order-places c =
-    let e = c.places_of-places.ensures c.loop-k.k c.loop-k-test.true in
-    let h = place_below (on c.args.order) c.args.dims c.loop-k.k c.requires.some in
-    omega arith
-
-pub returns-then-order-places : goal.returns-then-order-places
-returns-then-order-places c =
-    λ p. c.if-order-places.true
-    (ap (on c.args.order) (c.places_of-places.ensures c.loop-k.k c.loop-k-test.true)
-    ∙ (ordered_by (on c.args.order) c.args.dims p).found c.loop-k.k c.loop-k-test.true)
+pub returns-then-contains : goal.returns-then-contains
+returns-then-contains c =
+    let xs = c.args.order.now in
+    let all = all_from_yields_List (λ a. list_any (λ y. nat_eq y a) xs) _ _ c.all.result c.all.ensures.ran (YieldsList-from_range 0 (length xs) (length xs) (cc) (omega arith)) (λ x b q k. search (rules, tests)) in
+    let dims : (1 ≤ length xs) × (length xs ≤ 4) = search (rules, tests) in
+    order_tested xs c.all.result dims.0 dims.1 all

@@ -4,7 +4,6 @@ use Rattle.stage.specs.Stage.{Stage}
 use Rattle.stage.specs.Arrays.{array_bytes}
 use Rattle.stage.specs.Single.{single}
 use Rattle.base_codecs.specs.declared.chosen.Chosen.{Chosen}
-use Rattle.base_codecs.specs.declared.chosen.Chosen.TheVariants.{First}
 use Rattle.base_codecs.specs.declared.empty.Empty.{Empty}
 use Rattle.base_codecs.specs.declared.single.Single.{Single}
 use Rattle.base_codecs.specs.Empty.{empty_stage}
@@ -16,10 +15,6 @@ use Rattle.difference.specs.Difference.{differencing}
 
 abbrev pub ArrayCodec : Type 0
 ArrayCodec = Chosen (Empty Form) (Chosen (Single TransposeCodec) (Single DifferenceCodec))
-
--- the choice of the empty codec
-abbrev pub empty_codec : ArrayCodec
-empty_codec = First (record { of = record {} })
 
 abbrev pub chosen_array : ArrayCodec → Stage Form Form
 chosen_array =

@@ -2,11 +2,9 @@
 ghost use Rattle.std.specs.Prelude.{◌≡◌};
 ghost use Rattle.stage.specs.Arrays.{array_bytes};
 ghost use Rattle.stage.specs.Single.{single};
-ghost use Rattle.base_codecs.specs.Empty.{empty_stage};
 ghost use Rattle.base_codecs.specs.declared.chosen.Chosen.TheVariants.{Second, First};
 ghost use Rattle.transpose.specs.Transpose.{transposing};
 ghost use Rattle.difference.specs.Difference.{differencing};
-ghost use Rattle.array_codecs.specs.Chosen.{empty_codec};
 
 use base_codecs::chosen::Chosen;
 use base_codecs::empty::Empty;
@@ -17,14 +15,6 @@ use stage::codec::Codec;
 use transpose::transpose_codec::TransposeCodec;
 
 pub type ArrayCodec = Chosen<Empty<Form>, Chosen<Single<TransposeCodec>, Single<DifferenceCodec>>>;
-
-// The codec that changes nothing.
-pub fn empty() -> ArrayCodec
-    ensures value { result ≡ empty_codec }
-    ensures meaning { ⟦<ArrayCodec as Codec>⟧.meaning result ≡ empty_stage array_bytes }
-{
-    Chosen::First(Empty::new())
-}
 
 pub fn transpose(codec: TransposeCodec) -> ArrayCodec
     ensures value { result ≡ Second (First (record { codec = codec })) }

@@ -1,7 +1,10 @@
 // One of two codecs, chosen at run time.
-ghost use Rattle.base_codecs.specs.Chosen.{chosen};
+ghost use Rattle.std.specs.Prelude.{◌≡◌};
+ghost use Rattle.base_codecs.specs.Empty.{empty_stage};
+ghost use Rattle.base_codecs.specs.Chosen.{chosen, empty_choice};
 ghost use Rattle.base_codecs.specs.Choosing.{chosen_laws, chosen_arrays};
 
+use crate::empty::Empty;
 use form::array_form::Form;
 use form::fault::Fault;
 use stage::array_to_array::ArrayToArrayCodec;
@@ -12,6 +15,16 @@ use stage::codec::{Codec, Representation};
 pub enum Chosen<A, B> {
     First(A),
     Second(B),
+}
+
+impl<F: Representation + Copy + Drop, B: Codec<Decoded = F, Encoded = F>> Chosen<Empty<F>, B> {
+    // The choice of the codec that changes nothing.
+    pub fn empty() -> Chosen<Empty<F>, B>
+        ensures value { result ≡ empty_choice }
+        ensures meaning { ⟦<Chosen<Empty<F>, B> as Codec>⟧.meaning result ≡ empty_stage F.Representation.weight }
+    {
+        Chosen::First(Empty::new())
+    }
 }
 
 impl<A: Codec, B: Codec<Decoded = A::Decoded, Encoded = A::Encoded>> Codec for Chosen<A, B> {

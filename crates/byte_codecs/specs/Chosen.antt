@@ -3,7 +3,6 @@ use Rattle.std.specs.Prelude.{ℕ}
 use Rattle.stage.specs.Stage.{Stage}
 use Rattle.stage.specs.Single.{single}
 use Rattle.base_codecs.specs.declared.chosen.Chosen.{Chosen}
-use Rattle.base_codecs.specs.declared.chosen.Chosen.TheVariants.{First}
 use Rattle.base_codecs.specs.declared.empty.Empty.{Empty}
 use Rattle.base_codecs.specs.declared.single.Single.{Single}
 use Rattle.base_codecs.specs.Empty.{empty_stage}
@@ -15,10 +14,6 @@ use Rattle.fletcher32.specs.Fletcher32.{checksumming}
 
 abbrev pub ByteCodec : Type 0
 ByteCodec = Chosen (Empty ℕ) (Chosen (Single ShuffleCodec) (Single Fletcher32Codec))
-
--- the choice of the empty codec
-abbrev pub empty_codec : ByteCodec
-empty_codec = First (record { of = record {} })
 
 abbrev pub chosen_stage : ByteCodec → Stage ℕ ℕ
 chosen_stage =

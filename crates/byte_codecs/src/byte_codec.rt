@@ -1,11 +1,9 @@
 // A byte codec that is chosen at run time.
 ghost use Rattle.std.specs.Prelude.{◌≡◌};
 ghost use Rattle.stage.specs.Single.{single};
-ghost use Rattle.base_codecs.specs.Empty.{empty_stage};
 ghost use Rattle.base_codecs.specs.declared.chosen.Chosen.TheVariants.{First, Second};
 ghost use Rattle.shuffle.specs.Shuffle.{shuffling};
 ghost use Rattle.fletcher32.specs.Fletcher32.{checksumming};
-ghost use Rattle.byte_codecs.specs.Chosen.{empty_codec};
 
 use base_codecs::chosen::Chosen;
 use base_codecs::empty::Empty;
@@ -15,14 +13,6 @@ use shuffle::shuffle_codec::ShuffleCodec;
 use stage::codec::Codec;
 
 pub type ByteCodec = Chosen<Empty<usize>, Chosen<Single<ShuffleCodec>, Single<Fletcher32Codec>>>;
-
-// The codec that changes nothing.
-pub fn empty() -> ByteCodec
-    ensures value { result ≡ empty_codec }
-    ensures meaning { ⟦<ByteCodec as Codec>⟧.meaning result ≡ empty_stage (λ n. n) }
-{
-    Chosen::First(Empty::new())
-}
 
 pub fn shuffle(codec: ShuffleCodec) -> ByteCodec
     ensures value { result ≡ Second (First (record { codec = codec })) }

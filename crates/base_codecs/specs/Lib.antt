@@ -1,2 +1,4 @@
 pub mod Empty
 pub mod Emptiness
+pub mod Chosen
+pub mod Choosing

@@ -1,5 +1,6 @@
 // The codecs of no single and of one.
 #![tactic(auto)]
 
+pub mod chosen;
 pub mod empty;
 pub mod single;

@@ -1,85 +1,29 @@
 // A byte codec that is chosen at run time.
-ghost use Rattle.byte_codecs.specs.Chosen.{chosen_stage};
-ghost use Rattle.byte_codecs.specs.Choosing.{chosen_laws};
+ghost use Rattle.std.specs.Prelude.{◌≡◌};
+ghost use Rattle.stage.specs.Single.{single};
+ghost use Rattle.base_codecs.specs.declared.chosen.Chosen.TheVariants.{First, Second};
+ghost use Rattle.shuffle.specs.Shuffle.{shuffling};
+ghost use Rattle.fletcher32.specs.Fletcher32.{checksumming};
 
+use base_codecs::chosen::Chosen;
 use base_codecs::empty::Empty;
 use base_codecs::single::Single;
 use fletcher32::fletcher32_codec::Fletcher32Codec;
-use form::fault::Fault;
 use shuffle::shuffle_codec::ShuffleCodec;
-use stage::capability::PartialDecoderCapability;
 use stage::codec::Codec;
-use stage::single::SingleCodec;
 
-#[derive(Clone, Copy)]
-pub enum ByteCodec {
-    Empty,
-    Shuffle(ShuffleCodec),
-    Fletcher32(Fletcher32Codec),
+pub type ByteCodec = Chosen<Empty<usize>, Chosen<Single<ShuffleCodec>, Single<Fletcher32Codec>>>;
+
+pub fn shuffle(codec: ShuffleCodec) -> ByteCodec
+    ensures value { result ≡ Second (First (record { codec = codec })) }
+    ensures meaning { ⟦<ByteCodec as Codec>⟧.meaning result ≡ single (λ n. n) (λ n. n) (shuffling codec.elementsize) }
+{
+    Chosen::Second(Chosen::First(Single::new(codec)))
 }
 
-impl Codec for ByteCodec {
-    type Decoded = usize;
-
-    type Encoded = usize;
-
-    ghost meaning = { chosen_stage };
-
-    ghost lawful = { λ s. chosen_laws s };
-
-    fn singles(&self) -> Option<usize> {
-        match self {
-            ByteCodec::Empty => Empty::<usize>::new().singles(),
-            ByteCodec::Shuffle(c) => Single::new(*c).singles(),
-            ByteCodec::Fletcher32(c) => Single::new(*c).singles(),
-        }
-    }
-
-    fn capability(&self, single: usize) -> Result<PartialDecoderCapability, Fault> {
-        match self {
-            ByteCodec::Empty => Empty::<usize>::new().capability(single),
-            ByteCodec::Shuffle(c) => Single::new(*c).capability(single),
-            ByteCodec::Fletcher32(c) => Single::new(*c).capability(single),
-        }
-    }
-
-    fn coded(&self, form: &usize) -> Result<usize, Fault> {
-        match self {
-            ByteCodec::Empty => Empty::<usize>::new().coded(form),
-            ByteCodec::Shuffle(c) => Single::new(*c).coded(form),
-            ByteCodec::Fletcher32(c) => Single::new(*c).coded(form),
-        }
-    }
-
-    fn size(&self, form: &usize, place: usize) -> Result<usize, Fault> {
-        match self {
-            ByteCodec::Empty => Empty::<usize>::new().size(form, place),
-            ByteCodec::Shuffle(c) => Single::new(*c).size(form, place),
-            ByteCodec::Fletcher32(c) => Single::new(*c).size(form, place),
-        }
-    }
-
-    fn encode(&self, form: &usize, buf: &mut [u8], scratch: &mut [u8]) -> Result<usize, Fault> {
-        match self {
-            ByteCodec::Empty => Empty::<usize>::new().encode(form, buf, scratch),
-            ByteCodec::Shuffle(c) => Single::new(*c).encode(form, buf, scratch),
-            ByteCodec::Fletcher32(c) => Single::new(*c).encode(form, buf, scratch),
-        }
-    }
-
-    fn undo(
-        &self,
-        form: &usize,
-        from: usize,
-        to: usize,
-        checks: bool,
-        buf: &mut [u8],
-        scratch: &mut [u8],
-    ) -> Result<usize, Fault> {
-        match self {
-            ByteCodec::Empty => Empty::<usize>::new().undo(form, from, to, checks, buf, scratch),
-            ByteCodec::Shuffle(c) => Single::new(*c).undo(form, from, to, checks, buf, scratch),
-            ByteCodec::Fletcher32(c) => Single::new(*c).undo(form, from, to, checks, buf, scratch),
-        }
-    }
+pub fn fletcher32(codec: Fletcher32Codec) -> ByteCodec
+    ensures value { result ≡ Second (Second (record { codec = codec })) }
+    ensures meaning { ⟦<ByteCodec as Codec>⟧.meaning result ≡ single (λ n. n) (λ n. n) checksumming }
+{
+    Chosen::Second(Chosen::Second(Single::new(codec)))
 }

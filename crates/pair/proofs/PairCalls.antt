@@ -1,16 +1,28 @@
 -- What the calls of a pair answer, from what the calls of its halves do.
-use Rattle.std.proofs.Common.{◌≡◌, ℕ, ◌+◌, ◌-◌, ◌<◌, ◌≤◌, Bool, true, false, ◌&&◌, leb, List, ◌++◌, length, None, Ok, Err, Result, sym, refl, ap, ◌∙◌, subst, inl, inr, ⊎_elim, arith, length-append}
-use Rattle.std.proofs.lemmas.Bool.{and_cases, leb-false, lt-leb, cases_lt}
+use Rattle.std.proofs.Common.{◌≡◌, ℕ, ◌+◌, ◌-◌, ◌≤◌, Bool, true, false, ◌&&◌, leb, List, ◌++◌, length, None, Ok, Err, Result, sym, refl, ap, ◌∙◌, subst, ⊎_elim, arith, length-append}
+use Rattle.std.proofs.lemmas.Bool.{and_cases, leb-false, lt-leb}
 use Rattle.form.specs.declared.fault.Fault.{Fault}
-use Rattle.form.specs.Refusals.{Refusal, refusal, plain, told, unless}
+use Rattle.form.specs.Refusals.{Refusal, refusal, told, unless}
 use Rattle.stage.specs.Stage.{Stage, Laws}
 use Rattle.pair.specs.Compose.{lifted, after}
-use Rattle.stage.specs.Calls.{roomy, forward, size_answer, Undone}
+use Rattle.stage.specs.Calls.{roomy, forward, Undone}
 use Rattle.stage.proofs.Refusing.{unless_ok}
-use Rattle.stage.proofs.Undoing.{Did, Went, nowhere, short, went, places, placed, sized, unsized, went_from, undone_from, room_of}
-use Rattle.pair.specs.Composition.{ri, ro, size_outer, size_inner, done_outer, done_inner, done_failed, done_across}
+use Rattle.stage.proofs.Undoing.{Did, Went, nowhere, short, went, places, placed, went_from, undone_from, room_of}
+use Rattle.pair.specs.Composition.{ri, ro, done_outer, done_inner, done_failed, done_across}
 
-module _ {F G H : Type 0} (bF : F → ℕ) (bG : G → ℕ) (bH : H → ℕ) (o : Stage G H) (i : Stage F G) (lo : Laws bG bH o) (li : Laws bF bG i) (f : F) (g : G) (taken : Ok g ≡ unless ((after o i).refusal f) (Ok (i.coded f))) where
+-- two halves that keep their laws, and a form that both take, with the form between them
+pub record Halves {F G H : Type 0} (bF : F → ℕ) (bG : G → ℕ) (bH : H → ℕ) (o : Stage G H) (i : Stage F G) (f : F) (g : G) : Type 0 where
+  pub outer_laws : Laws bG bH o
+  pub inner_laws : Laws bF bG i
+  pub taken : Ok g ≡ unless ((after o i).refusal f) (Ok (i.coded f))
+
+module _ {F G H : Type 0} {bF : F → ℕ} {bG : G → ℕ} {bH : H → ℕ} {o : Stage G H} {i : Stage F G} {f : F} {g : G} (halves : Halves bF bG bH o i f g) where
+  lo : Laws bG bH o
+  lo = halves.outer_laws
+
+  li : Laws bF bG i
+  li = halves.inner_laws
+
   abbrev s : ℕ
   s = length o.singles
 
@@ -24,10 +36,10 @@ module _ {F G H : Type 0} (bF : F → ℕ) (bG : G → ℕ) (bH : H → ℕ) (o 
   all = length (o.singles ++ i.singles)
 
   r : p.refusal f ≡ None
-  r = (unless_ok (p.refusal f) (Ok (i.coded f)) g taken).0
+  r = (unless_ok (p.refusal f) (Ok (i.coded f)) g halves.taken).0
 
   eg : g ≡ i.coded f
-  eg = let e = (unless_ok (p.refusal f) (Ok (i.coded f)) g taken).1 in cc
+  eg = let e = (unless_ok (p.refusal f) (Ok (i.coded f)) g halves.taken).1 in cc
 
   total : all ≡ s + n
   total = length-append o.singles i.singles
@@ -37,23 +49,6 @@ module _ {F G H : Type 0} (bF : F → ℕ) (bG : G → ℕ) (bH : H → ℕ) (o 
 
   outer_taken : o.refusal g ≡ None
   outer_taken = ap o.refusal eg ∙ ro bF bG bH o i lo li f r
-
-  pub sized_outer : (k : ℕ) → k ≤ s → size_answer o g k ≡ size_answer p f k
-  sized_outer k h =
-      let t = total in
-      sized bG o g outer_taken k h ∙ ap Ok (ap (λ v. o.size v k) eg ∙ sym (size_outer bF bG bH o i lo li f r k h))
-      ∙ sym (sized bF p f r k (omega arith))
-
-  pub sized_inner : (k t : ℕ) → t ≡ s → t ≤ k → size_answer i f (k - t) ≡ size_answer p f k
-  sized_inner k t e h =
-      let z = total in
-      let u : s ≤ k = omega arith in
-      let d : k - t ≡ k - s = omega arith in
-      ap (size_answer i f) d ∙ ⊎_elim
-      (λ (v : k ≤ all).
-      sized bF i f inner_taken (k - s) (omega arith) ∙ ap Ok (sym (size_inner bF bG bH o i lo li f r k u)) ∙ sym (sized bF p f r k v))
-      (λ (v : all < k). unsized bF i f inner_taken (k - s) (omega arith) ∙ sym (unsized bF p f r k v))
-      (⊎_elim (λ (v : all < k). inr v) (λ (v : k ≤ all). inl v) (cases_lt all k))
 
   module _ (a b : ℕ) (c : Bool) (w w' : List ℕ) (sc : ℕ) (q : Result ℕ Fault) where
     pub undone_outer : b ≤ s → Undone bG o g a b c w w' sc q → Undone bF p f a b c w w' sc q
@@ -66,14 +61,6 @@ module _ {F G H : Type 0} (bF : F → ℕ) (bG : G → ℕ) (bH : H → ℕ) (o 
         by (went u m y) =
             let k = places o a b u in
             went (placed p a b k.0 (omega (arith, total))) m (done_outer bF bG bH o i lo li f r a b c w w' (told q) g k.0 h eg y)
-
-    pub undone_nowhere : all < b → told q ≡ Err (plain 13) → Undone bF p f a b c w w' sc q
-    undone_nowhere h e =
-        undone_from bF p f r a b c w w' sc q (nowhere (let k : leb b all ≡ false = lt-leb b all h in by (leb a b) k) e)
-      where
-        by : (m : Bool) → leb b all ≡ false → (m && leb b all) ≡ false
-        by true k = k
-        by false k = refl
 
     pub undone_inner : (t : ℕ) (v : Result ℕ Fault) → t ≡ s → t ≤ a → t ≤ b → b - t ≤ n → told q ≡ lifted t (told v) → Undone bF i f (a - t) (b - t) c w w' sc v → Undone bF p f a b c w w' sc q
     undone_inner t v e h hb k y d = undone_from bF p f r a b c w w' sc q (by (told v) refl (went_from bF i f inner_taken (a - t) (b - t) c w w' sc v d))

@@ -40,10 +40,7 @@ impl<O, I, M> Pair<O, I, M> {
 fn last_place<C: Codec>(codec: &C) -> usize
     ensures { result ≡ min (length (C.Codec.meaning codec.now).singles) (2 ^ 64 - 1) }
 {
-    match codec.singles() {
-        Some(n) => n,
-        None => usize::MAX,
-    }
+    codec.singles().unwrap_or(usize::MAX)
 }
 
 // A failed test's single, counted from the pair's first single on.
@@ -62,10 +59,7 @@ fn shift(r: Result<usize, Fault>, by: usize) -> Result<usize, Fault>
     requires { (k : ℕ) → r ≡ Err (Checksum k) → by + k < 2 ^ 64 }
     ensures { told result ≡ lifted by (told r) }
 {
-    match r {
-        Ok(n) => Ok(n),
-        Err(e) => Err(renamed(e, by)),
-    }
+    r.map_err(|e| renamed(e, by))
 }
 
 // The form between the two halves, if neither refuses.
@@ -95,25 +89,13 @@ impl<M: Representation + Drop, I: Codec<Encoded = M>, O: Codec<Decoded = M>> Cod
         (O.Codec.lawful s.outer) (I.Codec.lawful s.inner) };
 
     fn singles(&self) -> Option<usize> {
-        match self.outer.singles() {
-            Some(m) => match self.inner.singles() {
-                Some(n) => m.checked_add(n),
-                None => None,
-            },
-            None => None,
-        }
+        self.outer.singles()?.checked_add(self.inner.singles()?)
     }
 
     fn capability(&self, single: usize) -> Result<PartialDecoderCapability, Fault> {
         match self.outer.singles() {
-            Some(seam) => {
-                if single < seam {
-                    self.outer.capability(single)
-                } else {
-                    self.inner.capability(single - seam)
-                }
-            }
-            None => self.outer.capability(single),
+            Some(seam) if single >= seam => self.inner.capability(single - seam),
+            _ => self.outer.capability(single),
         }
     }
 
@@ -160,12 +142,10 @@ impl<M: Representation + Drop, I: Codec<Encoded = M>, O: Codec<Decoded = M>> Cod
         if to - seam > last_place(&self.inner) {
             return Err(Fault::Length);
         }
-        let start = if seam <= from {
-            from - seam
-        } else {
+        if from < seam {
             self.outer.undo(&middle, from, seam, checks, buf, scratch)?;
-            0
-        };
+        }
+        let start = from.saturating_sub(seam);
         let undone = self
             .inner
             .undo(form, start, to - seam, checks, buf, scratch);

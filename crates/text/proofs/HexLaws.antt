@@ -96,8 +96,3 @@ read_more word items (c ∷ (d ∷ cs)) rest h l b two r eh el eb e =
     let first : byte_of (hex_value c) (hex_value d) ≡ Some b = sym (cc) in
     let after : hex_bytes rest ≡ hex_bytes cs = ap hex_bytes r in
     rw after (moved items b (hex_bytes cs) ∙ (ap (λ o. option_map (λ ys. items ++ ys) (in_front o (hex_bytes cs))) (sym first) ∙ e))
-
-pub long_word : (w : List ℕ) → 2 ≤ length w → hex_parsed w ≡ hex_bytes w
-long_word [] two = absurd (omega arith)
-long_word (c ∷ []) two = absurd (omega arith)
-long_word (c ∷ (d ∷ cs)) two = refl

@@ -1,11 +1,12 @@
 // Bytes in lower-case hexadecimal, with `-` for no bytes.
+// The crate `hex` reads upper-case digits too, and writes to a text of its own, so the digits stand here.
 ghost use Rattle.std.specs.Prelude.{◌≡◌, ◌<◌, ◌++◌, is_ok, IfOk, if◌then◌else◌, vec_items};
 ghost use Rattle.std.specs.Option.{option_map};
 ghost use Rattle.text.specs.Hex.{hex_digit, hex_value, byte_of, hex_bytes, hex_of, hex_parsed, ReadsBack, OnlyPrinted};
 
 use std::alloc::{AllocError, Global};
 
-// The digit with a value below 16.
+// The digit with a value below 16; `char::from_digit` gives an Option of a `char`, to be unwrapped and cast.
 fn digit(value: u8) -> u8
     requires { value < 16 }
     ensures { result ≡ hex_digit value }
@@ -17,7 +18,7 @@ fn digit(value: u8) -> u8
     }
 }
 
-// The value of a digit; an upper-case letter is none.
+// The value of a digit; an upper-case letter, which `to_digit` takes, is none.
 fn value(digit: u8) -> Option<u8>
     ensures { result ≡ hex_value digit }
 {
@@ -43,10 +44,7 @@ pub fn push_hex(out: &mut Vec<u8>, bytes: &[u8]) -> Result<(), AllocError>
         out.push(b'-')?;
         return Ok(());
     }
-    let Some(room) = bytes.len().checked_mul(2) else {
-        return Err(AllocError);
-    };
-    out.reserve(room)?;
+    out.reserve(bytes.len().checked_mul(2).ok_or(AllocError)?)?;
     for b in bytes {
         out.push_reserved(digit(*b / 16));
         out.push_reserved(digit(*b % 16));
@@ -54,7 +52,7 @@ pub fn push_hex(out: &mut Vec<u8>, bytes: &[u8]) -> Result<(), AllocError>
     Ok(())
 }
 
-// The bytes that a word of two digits or more writes.
+// The bytes that pairs of digits write.
 fn pairs(heap: Global, word: &[u8]) -> Result<Option<Vec<u8>>, AllocError>
     ensures { IfOk result (λ o. option_map vec_items o ≡ hex_bytes word.now) }
 {
@@ -67,23 +65,17 @@ fn pairs(heap: Global, word: &[u8]) -> Result<Option<Vec<u8>>, AllocError>
         bytes.push(b)?;
         left = rest;
     }
-    if left.is_empty() {
-        Ok(Some(bytes))
-    } else {
-        Ok(None)
-    }
+    Ok(left.is_empty().then_some(bytes))
 }
 
 // The bytes that a word writes, or None where it is not what `push_hex` writes of any bytes.
 pub fn parse_hex(heap: Global, word: &[u8]) -> Result<Option<Vec<u8>>, AllocError>
     ensures { IfOk result (λ o. option_map vec_items o ≡ hex_parsed word.now) }
 {
-    if word.len() >= 2 {
-        return pairs(heap, word);
-    }
     match word {
-        [b'-'] => Ok(Some(Vec::new(heap))),
-        _ => Ok(None),
+        b"-" => Ok(Some(Vec::new(heap))),
+        b"" => Ok(None),
+        _ => pairs(heap, word),
     }
 }
 

@@ -8,17 +8,11 @@ use std::alloc::{AllocError, Global};
 pub fn parse_number(word: &[u8]) -> Option<u64>
     ensures { result ≡ number_of word.now }
 {
-    if word.is_empty() {
+    // `from_str_radix` would take a sign in front
+    if !word.first()?.is_ascii_digit() {
         return None;
     }
-    let mut n: u64 = 0;
-    for c in word {
-        if !c.is_ascii_digit() {
-            return None;
-        }
-        n = n.checked_mul(10)?.checked_add(u64::from(*c - b'0'))?;
-    }
-    Some(n)
+    u64::from_str_radix(str::from_utf8(word).ok()?, 10).ok()
 }
 
 // Adds the digits of a number; without memory for that it adds nothing.

@@ -1,22 +1,20 @@
-use Rattle.std.proofs.Common.{◌≡◌, ◌<◌, not, length, drop, sym, ap, ◌∙◌, arith, rules}
-use Rattle.std.specs.List.{prefix_len}
-use Rattle.text.proofs.Fronts.{past_front}
-use Rattle.std.proofs.lemmas.List.Sums.{prefix_len-le-length}
+use Rattle.std.proofs.Common.{not, sym, ◌∙◌, rules, tests}
+use Rattle.std.proofs.lemmas.List.{take_rest}
+use Rattle.std.proofs.lemmas.Iterator.{YieldsList-from_slice}
+use Rattle.std.proofs.lemmas.Iterator.Search.{position_from_yields_List}
+use Rattle.text.proofs.Fronts.{all_blank, word_stands}
 use Rattle.text.specs.Words.{blank}
 use Rattle.text.proofs.words.next_word.Goals as goal
 
-pub split_at-requires : goal.split_at-requires
-split_at-requires c = omega (arith, prefix_len-le-length blank c.args.line.now, c.blanks.ensures)
-
-pub split_at-requires-2 : goal.split_at-requires-2
-split_at-requires-2 c = omega (arith, prefix_len-le-length (λ b. not (blank b)) c.split_at.result.1.now, c.word_len.ensures)
+pub returns-in_err-start : goal.returns-in_err-start
+returns-in_err-start c =
+    let at = position_from_yields_List (λ b. not (blank b)) _ _ c.position.result c.position.ensures.ran (YieldsList-from_slice c.args.line.now cc) (λ x b q k. search (rules, tests)) in
+    let all = all_blank c.args.line.now (sym c.in_err-start.was ∙ at) in
+    search rules
 
 pub returns : goal.returns
 returns c =
-    let text : c.split_at.result.1.now ≡ drop (prefix_len blank c.args.line.now) c.args.line.now =
-    c.split_at.ensures.back ∙ ap (λ k. drop k c.args.line.now) c.blanks.ensures in
-    let whole = sym c.split_at-2.ensures.by_index.0 in
-    let some : 0 < length (drop (prefix_len blank c.args.line.now) c.args.line.now) = simp (sym text) (search rules) in
-    let first = past_front blank c.args.line.now some in
-    let long : 0 < prefix_len (λ b. not (blank b)) c.split_at.result.1.now = simp text first in
-    (whole ∙ text, omega (arith, c.split_at-2.ensures.front_len, c.word_len.ensures), ap (prefix_len (λ b. not (blank b))) whole ∙ (sym c.word_len.ensures ∙ sym c.split_at-2.ensures.front_len))
+    let at = position_from_yields_List (λ b. not (blank b)) _ _ c.position.result c.position.ensures.ran (YieldsList-from_slice c.args.line.now cc) (λ x b q k. search (rules, tests)) in
+    let next = position_from_yields_List blank _ _ c.position-2.result c.position-2.ensures.ran (YieldsList-from_slice _ c.iter-2.ensures.rest) (λ x b q k. search (rules, tests)) in
+    let word = word_stands c.args.line.now _ c.in_ok-start.start c.position-2.result (sym c.in_ok-start.was ∙ at) (take_rest c.args.line.now c.in_ok-start.start) next in
+    rw (c.split_at.ensures.front, c.split_at.ensures.back, c.unwrap_or-end.ensures) word

@@ -1,31 +1,18 @@
--- What the library's calls leave in a session.
-use Rattle.std.proofs.Common.{◌≡◌, ℕ, ◌-◌, ◌*◌, List, [], ◌++◌, length, take, drop, replicate, IsErrAnd, IfErr, Some, None, Ok, Err, Option, Result, sym, refl, ap, ◌∙◌, subst, arith}
-use Rattle.std.proofs.lemmas.List.{take_at, take_all, length-replicate}
+-- What a form that is taken or refused answers.
+use Rattle.std.proofs.Common.{◌≡◌, ℕ, ◌*◌, List, IsErrAnd, Some, None, Ok, Err, Option, Result, sym, refl, ap, ◌∙◌, subst}
 use Rattle.form.specs.declared.fault.Fault.{Fault}
 use Rattle.form.specs.declared.array_form.Form.{Form}
 use Rattle.form.specs.declared.data_type.DataType.{DataType}
 use Rattle.form.specs.declared.data_type.DataType.TheVariants.{UInt8, Int8, UInt16, Int16, UInt32, Int32, UInt64, Int64, Float32, Float64}
 use Rattle.form.specs.Answers.{Answers}
 use Rattle.form.specs.Forms.{form_refusal, Made, shape_of, element_size}
-use Rattle.form.specs.Refusals.{Refusal, refusal}
 use Rattle.form.specs.Shapes.{product}
 use Rattle.form.specs.Types.{code_of, size_of, size_of_code}
 use Rattle.chunkctl.specs.declared.trouble.Trouble.{Trouble}
 use Rattle.chunkctl.specs.declared.trouble.Trouble.TheVariants.{Refused}
 use Rattle.chunkctl.specs.declared.answer.Answer.{Answer}
-use Rattle.chunkctl.specs.declared.answer.Answer.TheVariants.{Form as Formed, Output}
-use Rattle.chunkctl.specs.Carried.{Unrefused, IsRefused, FormSet, Called}
-
--- a buffer that is filled anew
-pub fresh : (n x : ℕ) (old items : List ℕ) (len : ℕ) → old ≡ [] → len ≡ 0 → items ≡ take n old ++ replicate (n - len) x → items ≡ replicate n x
-fresh n x old items len e l h =
-    let none : take n old ≡ [] = ap (take n) e ∙ take_all n [] (omega arith) in
-    let all : n - len ≡ n = omega arith in
-    h ∙ (ap (λ s. s ++ replicate (n - len) x) none ∙ ap (λ k. replicate k x) all)
-
-pub kept_at_err : {X Y : Type 0} (r : Result X Y) (Q : Y → Type 0) (P : Type 0) → IsErrAnd r Q → P → IfErr r (λ _. P)
-kept_at_err (Ok x) Q P h p = absurd h
-kept_at_err (Err y) Q P h p = p
+use Rattle.chunkctl.specs.declared.answer.Answer.TheVariants.{Form as Formed}
+use Rattle.chunkctl.specs.Carried.{Unrefused, IsRefused, FormSet}
 
 pub refused_by : {X : Type 0} (o : Option ℕ) (P : X → Type 0) (Q : Answer → Type 0) (e : Fault) (r : Result Answer Trouble) → IsErrAnd r (λ t. t ≡ Refused e) → Answers o P (Err e) → Unrefused o Q r
 refused_by None P Q e r h a = absurd a
@@ -56,20 +43,3 @@ form_set shape code fill f n m h en em =
     let size : element_size f ≡ size_of_code code = sym (code_size f.data_type) ∙ ap size_of_code made.code_is in
     let bytes : m ≡ product shape * size_of_code code = em ∙ (ap (λ s. product s * element_size f) made.shape_is ∙ ap (λ k. product shape * k) size) in
     (cc (count, bytes), (f, refl, made)))
-
-module _ (A : ℕ → ℕ → ℕ → Result ℕ Refusal) (x old items slice out : List ℕ) (w s v u len : ℕ) (filled : items ≡ replicate (length old) 238) (lent : slice ≡ items) (same_w : v ≡ w) (same_s : u ≡ s) (long : length out ≡ length slice) (whole : len ≡ length old) where
-  sized : length slice ≡ length old
-  sized = ap length (lent ∙ filled) ∙ length-replicate (length old) 238
-
-  asked : A (length slice) v u ≡ A (length old) w s
-  asked = ap (λ k. A k v u) sized ∙ (ap (λ k. A (length old) k u) same_w ∙ ap (A (length old) w) same_s)
-
-  stays : take len (out ++ drop (length out) items) ≡ out
-  stays = take_at out (drop (length out) items) len (long ∙ (sized ∙ sym whole))
-
-  pub call_ok : (n : ℕ) → Ok n ≡ A (length slice) v u → out ≡ x ++ drop n slice → Called (A (length old) w s) x (length old) (take len (out ++ drop (length out) items)) (Ok (Output n))
-  call_ok n a e = (n, refl, sym (a ∙ asked), stays ∙ (e ∙ ap (λ l. x ++ drop n l) (lent ∙ filled)))
-
-  pub call_err : (e : Fault) (r : Result Answer Trouble) → IsErrAnd r (λ t. t ≡ Refused e) → Err (refusal e) ≡ A (length slice) v u → out ≡ slice → Called (A (length old) w s) x (length old) (take len (out ++ drop (length out) items)) r
-  call_err e (Ok a) h k same = absurd h
-  call_err e (Err t) h k same = (e, h, sym (k ∙ asked), stays ∙ (same ∙ (lent ∙ filled)))

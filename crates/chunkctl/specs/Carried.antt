@@ -115,10 +115,10 @@ BeforeSum bytes (Err t) = (length bytes < 4) × IsRefused 13 t
 -- what each command leaves of a session s
 abbrev pub Ran : Command → Session → Session → Result Answer Trouble → Type 0
 Ran Help s t r = (r ≡ Ok Commands) × (t ≡ s)
-Ran (Out n) s t r = (t.form ≡ s.form) × (t.stages ≡ s.stages) × MatchResult r (λ _. vec_items t.output ≡ replicate n 238) (λ _. t ≡ s)
+Ran (Out n) s t r = (t.form ≡ s.form) × (t.stages ≡ s.stages) × MatchResult r (λ _. vec_items t.buffers.output ≡ replicate n 238) (λ _. t ≡ s)
 Ran (Work n m) s t r =
-    (t.form ≡ s.form) × (t.stages ≡ s.stages) × MatchResult r (λ _. (vec_len t.work ≡ n) × (vec_len t.scratch ≡ m)) (λ _. t ≡ s)
-Ran Peek s t r = (r ≡ Ok (Output (vec_len s.output))) × (t ≡ s)
+    (t.form ≡ s.form) × (t.stages ≡ s.stages) × MatchResult r (λ _. (vec_len t.buffers.work ≡ n) × (vec_len t.buffers.scratch ≡ m)) (λ _. t ≡ s)
+Ran Peek s t r = (r ≡ Ok (Output (vec_len s.buffers.output))) × (t ≡ s)
 Ran (NewForm shape code fill) s t r =
     FormSet (vec_items shape) code (vec_items fill) t.form r × OnErr r (t ≡ s) × (t.stages ≡ s.stages)
 Ran (NewStages names) s t r = StagesSet (vec_items names) t.stages r × OnErr r (t ≡ s) × (t.form ≡ s.form)
@@ -126,9 +126,9 @@ Ran Singles s t r = t ≡ s
 Ran (Lengths n) s t r = t ≡ s
 Ran (Encode bytes) s t r =
     (t.form ≡ s.form) × (t.stages ≡ s.stages) ×
-    Encodes s.stages (vec_items bytes) (vec_items s.output) (vec_len s.work) (vec_len s.scratch) (vec_items t.output) r
+    Encodes s.stages (vec_items bytes) (vec_items s.buffers.output) (vec_len s.buffers.work) (vec_len s.buffers.scratch) (vec_items t.buffers.output) r
 Ran (Undo u) s t r =
     (t.form ≡ s.form) × (t.stages ≡ s.stages) ×
-    Undoes s.stages u.decoded u.from u.to u.checks (vec_items u.input) (vec_items s.output) (vec_len s.work) (vec_len s.scratch) (vec_items t.output) r
+    Undoes s.stages u.decoded u.from u.to u.checks (vec_items u.input) (vec_items s.buffers.output) (vec_len s.buffers.work) (vec_len s.buffers.scratch) (vec_items t.buffers.output) r
 Ran (Sum bytes) s t r = (r ≡ Ok (SumIs (fletcher32 (vec_items bytes)))) × (t ≡ s)
 Ran (Data bytes) s t r = BeforeSum (vec_items bytes) r × (t ≡ s)

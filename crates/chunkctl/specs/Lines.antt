@@ -1,12 +1,17 @@
 -- How a line is kept while it is read.
-use Rattle.std.specs.Prelude.{◌≡◌, ℕ, ◌+◌, ◌<◌, ◌≤◌, List, ◌++◌, length}
-use Rattle.chunkctl.specs.declared.line.Kept.{Kept}
-use Rattle.chunkctl.specs.declared.line.Kept.TheVariants.{Whole, TooLong, NoMemory}
+use Rattle.std.specs.Prelude.{◌≡◌, ℕ, ◌+◌, ◌<◌, ◌≤◌, List, ◌++◌, length, Ok, Err, Result, vec_items}
+use Rattle.std.specs.Global.{Vec}
+use Rattle.chunkctl.specs.declared.trouble.Complaint.{Complaint}
+use Rattle.chunkctl.specs.declared.trouble.Complaint.TheVariants.{NoMemory, LineTooLong}
 
--- a line that is whole has all parts, and 16,777,216 bytes at most; one that is not stays so, and takes no more memory
-abbrev pub Grown : Kept → List ℕ → List ℕ → List ℕ → Kept → Type 0
-Grown Whole line part next Whole = (next ≡ line ++ part) × (length next ≤ 16777216)
-Grown Whole line part next TooLong = (next ≡ line) × (16777216 < length line + length part)
-Grown Whole line part next NoMemory = next ≡ line
-Grown TooLong line part next now = (next ≡ line) × (now ≡ TooLong)
-Grown NoMemory line part next now = (next ≡ line) × (now ≡ NoMemory)
+-- why a line of so many bytes is not kept
+abbrev pub NotKept : ℕ → Complaint → Type 0
+NotKept n LineTooLong = 16777216 < n
+NotKept n NoMemory = Unit {0}
+NotKept n _ = ⊥
+
+-- a line that is whole has all parts, and 16,777,216 bytes at most; one that is not stays so
+abbrev pub Grown : Result (Vec ℕ) Complaint → List ℕ → Result (Vec ℕ) Complaint → Type 0
+Grown (Ok line) part (Ok next) = (vec_items next ≡ vec_items line ++ part) × (length (vec_items next) ≤ 16777216)
+Grown (Ok line) part (Err c) = NotKept (length (vec_items line) + length part) c
+Grown (Err c) part next = next ≡ Err c

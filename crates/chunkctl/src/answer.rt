@@ -1,9 +1,8 @@
 // What a command answers, and how it is written.
 ghost use Rattle.std.specs.Prelude.{◌≡◌, cond, ◌++◌, is_ok, OnOk};
-ghost use Rattle.chunkctl.specs.Shown.{numbers_text, single_text, singles_text, yes_no, fault_text, trouble_text, value_text, outcome_text, line_text};
+ghost use Rattle.chunkctl.specs.Shown.{numbers_text, single_text, singles_text, yes_no, trouble_text, value_text, outcome_text, line_text};
 
 use crate::trouble::Trouble;
-use form::fault::Fault;
 use stage::capability::PartialDecoderCapability;
 use std::alloc::{AllocError, Global};
 use text::hex::push_hex;
@@ -76,28 +75,11 @@ fn push_singles(out: &mut Vec<u8>, singles: &[PartialDecoderCapability]) -> Resu
     Ok(())
 }
 
-fn push_fault(heap: Global, out: &mut Vec<u8>, fault: Fault) -> Result<(), AllocError>
-    ensures { OnOk result (out.new.items ≡ out.old.items ++ fault_text fault) }
-{
-    push_text(out, "refused ")?;
-    push_number(heap, out, u64::from(fault.number()))?;
-    if let Some(single) = fault.single() {
-        push_text(out, " at ")?;
-        push_number(heap, out, single as u64)?;
-    }
-    Ok(())
-}
-
 fn push_trouble(heap: Global, out: &mut Vec<u8>, trouble: Trouble) -> Result<(), AllocError>
     ensures { OnOk result (out.new.items ≡ out.old.items ++ trouble_text trouble) }
 {
-    match trouble {
-        Trouble::Refused(fault) => push_fault(heap, out, fault),
-        Trouble::Error(complaint) => {
-            push_text(out, "error: ")?;
-            push_text(out, complaint.text())
-        }
-    }
+    let text = trouble.to_string(heap)?;
+    push_text(out, text.as_str())
 }
 
 // A blank and the value of an answer that has one; `output` is the output buffer.

@@ -1,5 +1,5 @@
 // The commands, and how a line says one.
-use crate::trouble::{Complaint, Trouble};
+use crate::trouble::Complaint;
 use std::alloc::Global;
 use text::hex::parse_hex;
 use text::number::parse_number;
@@ -16,12 +16,21 @@ pub enum StageName {
 pub enum Command {
     Help,
     Out(usize),
-    Work(usize, usize),
+    Work {
+        first: usize,
+        second: usize,
+    },
     Peek,
-    Form(Vec<usize>, usize, Vec<u8>),
+    Form {
+        shape: Vec<usize>,
+        // a number that may name no data type: the library refuses that, and only after the shape
+        code: usize,
+        fill: Vec<u8>,
+    },
     // in encode order
     Stages(Vec<StageName>),
     Singles,
+    // of what has the decoded length
     Lengths(usize),
     Encode(Vec<u8>),
     Undo(Undo),
@@ -47,58 +56,48 @@ struct Words<'a> {
 
 impl<'a> Words<'a> {
     fn next(&mut self) -> Result<&'a [u8], Complaint> {
-        match next_word(self.left) {
-            Some((word, rest)) => {
-                self.left = rest;
-                Ok(word)
-            }
-            None => Err(Complaint::WordCount),
-        }
+        let (word, rest) = next_word(self.left).ok_or(Complaint::WordCount)?;
+        self.left = rest;
+        Ok(word)
     }
 
     fn number(&mut self) -> Result<usize, Complaint> {
-        parse_size(self.next()?)
+        parse_size(self.next()?).ok_or(Complaint::Number)
     }
 
-    fn hex(&mut self, heap: Global) -> Result<Vec<u8>, Trouble> {
-        let word = self.next()?;
-        match parse_hex(heap, word)? {
-            Some(bytes) => Ok(bytes),
-            None => Err(Trouble::Error(Complaint::Hex)),
-        }
+    fn hex(&mut self, heap: Global) -> Result<Vec<u8>, Complaint> {
+        parse_hex(heap, self.next()?)?.ok_or(Complaint::Hex)
     }
 
     fn end(&self) -> Result<(), Complaint> {
-        match next_word(self.left) {
-            Some(_) => Err(Complaint::WordCount),
-            None => Ok(()),
+        if next_word(self.left).is_some() {
+            return Err(Complaint::WordCount);
         }
+        Ok(())
     }
 }
 
-fn parse_size(word: &[u8]) -> Result<usize, Complaint> {
-    match parse_number(word) {
-        Some(n) => Ok(n as usize),
-        None => Err(Complaint::Number),
-    }
+fn parse_size(word: &[u8]) -> Option<usize> {
+    Some(parse_number(word)? as usize)
 }
 
-// Lengths joined by x, or none.
-fn parse_shape(heap: Global, word: &[u8]) -> Result<Vec<usize>, Trouble> {
-    let mut lengths = Vec::new(heap);
+// The parts that a separator joins, as `parse` reads each, or none for `-`.
+fn parse_list<T: Drop, F: Fn(&[u8]) -> Result<T, Complaint> + Drop>(
+    heap: Global,
+    word: &[u8],
+    separator: u8,
+    parse: F,
+) -> Result<Vec<T>, Complaint>
+    requires { (f : F) (a : _) → F.FnMut.pre f a }
+{
     if word == b"-".as_slice() {
-        return Ok(lengths);
+        return Ok(Vec::new(heap));
     }
-    let mut left = Some(word);
-    while let Some(word) = left {
-        let (part, rest) = cut(word, b'x');
-        let Some(len) = parse_number(part) else {
-            return Err(Trouble::Error(Complaint::Shape));
-        };
-        lengths.push(len as usize)?;
-        left = rest;
-    }
-    Ok(lengths)
+    word.split(|b| *b == separator).map(parse).try_collect(heap)
+}
+
+fn parse_length(word: &[u8]) -> Result<usize, Complaint> {
+    parse_size(word).ok_or(Complaint::Shape)
 }
 
 // The code of a data type, by its name or as a number.
@@ -116,37 +115,19 @@ fn parse_type(word: &[u8]) -> Result<usize, Complaint> {
         b"float64" => Ok(10),
         b"string" => Ok(11),
         b"optional" => Ok(12),
-        _ => match parse_number(word) {
-            Some(code) => Ok(code as usize),
-            None => Err(Complaint::DataType),
-        },
+        _ => parse_size(word).ok_or(Complaint::DataType),
     }
 }
 
 fn parse_stage(word: &[u8]) -> Result<StageName, Complaint> {
     match cut(word, b':') {
-        (b"shuffle", Some(size)) => match parse_number(size) {
-            Some(size) => Ok(StageName::Shuffle(size as usize)),
-            None => Err(Complaint::Stage),
-        },
+        (b"shuffle", Some(size)) => {
+            let size = parse_size(size).ok_or(Complaint::Stage)?;
+            Ok(StageName::Shuffle(size))
+        }
         (b"fletcher32", None) => Ok(StageName::Fletcher32),
         _ => Err(Complaint::Stage),
     }
-}
-
-// Stages joined by +, or none.
-fn parse_stages(heap: Global, word: &[u8]) -> Result<Vec<StageName>, Trouble> {
-    let mut names = Vec::new(heap);
-    if word == b"-".as_slice() {
-        return Ok(names);
-    }
-    let mut left = Some(word);
-    while let Some(word) = left {
-        let (part, rest) = cut(word, b'+');
-        names.push(parse_stage(part)?)?;
-        left = rest;
-    }
-    Ok(names)
 }
 
 fn parse_switch(word: &[u8]) -> Result<bool, Complaint> {
@@ -157,7 +138,7 @@ fn parse_switch(word: &[u8]) -> Result<bool, Complaint> {
     }
 }
 
-fn parse_undo(heap: Global, words: &mut Words<'_>) -> Result<Undo, Trouble> {
+fn parse_undo(heap: Global, words: &mut Words<'_>) -> Result<Undo, Complaint> {
     Ok(Undo {
         decoded: words.number()?,
         from: words.number()?,
@@ -168,31 +149,34 @@ fn parse_undo(heap: Global, words: &mut Words<'_>) -> Result<Undo, Trouble> {
 }
 
 // The command with the name, from the words after it.
-fn parse_words(heap: Global, name: &[u8], words: &mut Words<'_>) -> Result<Command, Trouble> {
+fn parse_words(heap: Global, name: &[u8], words: &mut Words<'_>) -> Result<Command, Complaint> {
     let command = match name {
         b"help" => Command::Help,
         b"out" => Command::Out(words.number()?),
-        b"work" => Command::Work(words.number()?, words.number()?),
+        b"work" => Command::Work {
+            first: words.number()?,
+            second: words.number()?,
+        },
         b"peek" => Command::Peek,
-        b"form" => {
-            let lengths = parse_shape(heap, words.next()?)?;
-            let code = parse_type(words.next()?)?;
-            Command::Form(lengths, code, words.hex(heap)?)
-        }
-        b"stages" => Command::Stages(parse_stages(heap, words.next()?)?),
+        b"form" => Command::Form {
+            shape: parse_list(heap, words.next()?, b'x', parse_length)?,
+            code: parse_type(words.next()?)?,
+            fill: words.hex(heap)?,
+        },
+        b"stages" => Command::Stages(parse_list(heap, words.next()?, b'+', parse_stage)?),
         b"singles" => Command::Singles,
         b"lengths" => Command::Lengths(words.number()?),
         b"encode" => Command::Encode(words.hex(heap)?),
         b"undo" => Command::Undo(parse_undo(heap, words)?),
         b"sum" => Command::Sum(words.hex(heap)?),
         b"data" => Command::Data(words.hex(heap)?),
-        _ => return Err(Trouble::Error(Complaint::UnknownCommand)),
+        _ => return Err(Complaint::UnknownCommand),
     };
     Ok(command)
 }
 
 // The command that a line says.
-pub fn parse(heap: Global, line: &[u8]) -> Result<Command, Trouble> {
+pub fn parse(heap: Global, line: &[u8]) -> Result<Command, Complaint> {
     let mut words = Words { left: line };
     let name = words.next()?;
     let command = parse_words(heap, name, &mut words)?;

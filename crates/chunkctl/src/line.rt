@@ -1,7 +1,9 @@
 // Lines of any bytes from a buffered input.
-ghost use Rattle.std.specs.Prelude.{◌≡◌, ◌||◌, if◌then◌else◌};
+ghost use Rattle.std.specs.Iterator.{at_most};
 ghost use Rattle.chunkctl.specs.Lines.{Grown};
 
+use crate::trouble::Complaint;
+use std::alloc::Global;
 use std::io;
 use std::io::BufRead;
 use text::words::{cut, next_word};
@@ -9,111 +11,104 @@ use text::words::{cut, next_word};
 // The longest line that is kept.
 const LONGEST: usize = 16_777_216;
 
-// How a line was kept.
-#[derive(Clone, Copy)]
-pub enum Kept {
-    Whole,
-    TooLong,
-    NoMemory,
-}
-
-#[derive(Clone, Copy)]
-pub enum Found {
-    Line(Kept),
-    // a blank line, or one that begins with #
-    Silent,
-    End,
-}
-
 // Adds a part to a line that is whole so far.
-fn keep(kept: Kept, line: &mut Vec<u8>, part: &[u8]) -> Kept
-    ensures { Grown kept line.old.items part.now line.new.items result }
+fn keep(line: Result<Vec<u8>, Complaint>, part: &[u8]) -> Result<Vec<u8>, Complaint>
+    ensures { Grown line part.now result }
 {
-    match kept {
-        Kept::Whole => {
-            if part.len() > LONGEST || line.len() > LONGEST - part.len() {
-                return Kept::TooLong;
-            }
-            match line.extend_from_slice(part) {
-                Ok(()) => Kept::Whole,
-                Err(_) => Kept::NoMemory,
-            }
-        }
-        other => other,
+    let mut line = line?;
+    if part.len() > LONGEST || line.len() > LONGEST - part.len() {
+        return Err(Complaint::LineTooLong);
     }
+    line.extend_from_slice(part)?;
+    Ok(line)
 }
 
-// What is known of a line while it is read.
-#[derive(Clone, Copy)]
-struct Progress {
-    kept: Kept,
-    begun: bool,
-    blank: bool,
-    comment: bool,
+// What a line has so far.
+#[derive(Clone, Copy, PartialEq, Eq)]
+enum Look {
+    Nothing,
+    Blanks,
+    // it begins with #
+    Comment,
+    Words,
 }
 
-impl Progress {
-    fn new() -> Progress {
-        Progress {
-            kept: Kept::Whole,
-            begun: false,
-            blank: true,
-            comment: false,
-        }
-    }
-
+impl Look {
     // After one more part of the line.
-    fn after(self, line: &mut Vec<u8>, part: &[u8]) -> Progress
-        ensures { Grown self.kept line.old.items part.now line.new.items result.kept }
-    {
-        let comment = if self.begun {
-            self.comment
-        } else {
-            part.first().copied() == Some(b'#')
-        };
-        Progress {
-            kept: keep(self.kept, line, part),
-            begun: self.begun || !part.is_empty(),
-            blank: self.blank && next_word(part).is_none(),
-            comment,
-        }
-    }
-
-    // At the line's end.
-    fn found(self) -> Found
-        ensures { result ≡ (if self.blank || self.comment then Found.Silent else Found.Line self.kept) }
-    {
-        if self.blank || self.comment {
-            Found::Silent
-        } else {
-            Found::Line(self.kept)
+    fn after(self, part: &[u8]) -> Look {
+        match (self, part) {
+            (Look::Nothing, []) => Look::Nothing,
+            (Look::Nothing, [b'#', ..]) => Look::Comment,
+            (Look::Nothing | Look::Blanks, _) => match next_word(part) {
+                Some(_) => Look::Words,
+                None => Look::Blanks,
+            },
+            (Look::Comment | Look::Words, _) => self,
         }
     }
 }
 
-// Reads the next line, without its newline. Of a line that is not kept whole the rest is skipped.
-pub fn read_line<R: BufRead>(reader: &mut R, line: &mut Vec<u8>) -> io::Result<Found> {
-    line.clear();
-    let mut progress = Progress::new();
-    let mut some = false;
+// Reads the next line that is neither blank nor a comment, without its newline, or says why it is not kept; the rest of it
+// is skipped then.
+fn next_line<R: BufRead>(
+    heap: Global,
+    reader: &mut R,
+) -> io::Result<Option<Result<Vec<u8>, Complaint>>> {
+    let mut line = Ok(Vec::new(heap));
+    let mut look = Look::Nothing;
+    // a count bounds this loop as it does the library's own: an input may have no end
     for _ in 0..u64::MAX {
         let held = reader.fill_buf()?;
         if held.is_empty() {
             break;
         }
-        some = true;
         let (part, rest) = cut(held, b'\n');
-        progress = progress.after(line, part);
-        let used = part.len();
+        line = keep(line, part);
+        look = look.after(part);
         let ended = rest.is_some();
-        reader.consume(if ended { used + 1 } else { used });
+        let used = part.len() + usize::from(ended);
+        reader.consume(used);
+        if ended && look == Look::Words {
+            return Ok(Some(line));
+        }
         if ended {
-            return Ok(progress.found());
+            line = Ok(Vec::new(heap));
+            look = Look::Nothing;
         }
     }
-    if some {
-        Ok(progress.found())
+    Ok(if look == Look::Words {
+        Some(line)
     } else {
-        Ok(Found::End)
+        None
+    })
+}
+
+// The lines of an input that are neither blank nor comments.
+#[derive(Drop)]
+pub struct Lines<R> {
+    heap: Global,
+    reader: R,
+    // how many may still be read, since an input may have no end
+    left: u64,
+}
+
+impl<R> Lines<R> {
+    pub fn new(heap: Global, reader: R) -> Lines<R> {
+        Lines {
+            heap,
+            reader,
+            left: u64::MAX,
+        }
+    }
+}
+
+impl<R: BufRead + Drop> Iterator for Lines<R> {
+    type Item = io::Result<Result<Vec<u8>, Complaint>>;
+
+    ghost remaining = { λ s. at_most s.left };
+
+    fn next(&mut self) -> Option<io::Result<Result<Vec<u8>, Complaint>>> {
+        self.left = self.left.checked_sub(1)?;
+        next_line(self.heap, &mut self.reader).transpose()
     }
 }

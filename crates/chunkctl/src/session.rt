@@ -1,15 +1,16 @@
 // What is kept from line to line, and how a command is carried out.
-ghost use Rattle.std.specs.Prelude.{◌≡◌, ◌<◌, false, ◌&&◌, length, replicate, is_ok, Some, None, Ok, Err, vec_len, OnErr};
+ghost use Rattle.std.specs.Prelude.{◌≡◌, ◌<◌, false, ◌&&◌, length, replicate, is_ok, Some, None, Ok, Err, vec_len, vec_items, IfOk, OnErr};
 ghost use Rattle.chunkctl.specs.Carried.{IsError, FormSet, StagesSet, Encodes, Undoes, BeforeSum, Ran, sets_form, sets_stages};
 
 use crate::answer::Answer;
 use crate::command::{Command, StageName, Undo};
 use crate::draft::{Stages, built};
 use crate::trouble::{Complaint, Trouble};
+use buffers::Buffers;
 use fletcher32::fletcher32_codec::{data_before_checksum, h5_checksum_fletcher32};
 use form::array_form::Form;
-use stage::codec::{Codec, Representation};
-use std::alloc::Global;
+use stage::codec::Codec;
+use std::alloc::{AllocError, Global};
 
 // What an output buffer is filled with.
 const FRESH: u8 = 0xee;
@@ -21,9 +22,7 @@ const LARGEST: usize = 1_048_576;
 pub struct Session {
     pub form: Option<Form>,
     pub stages: Option<Stages>,
-    pub output: Vec<u8>,
-    pub work: Vec<u8>,
-    pub scratch: Vec<u8>,
+    pub buffers: Buffers,
 }
 
 // A buffer of so many bytes, each with the value.
@@ -33,136 +32,128 @@ fn buffer(heap: Global, size: usize, value: u8) -> Result<Vec<u8>, Trouble>
     if size > LARGEST {
         return Err(Trouble::Error(Complaint::BufferTooLarge));
     }
-    let mut bytes = Vec::new(heap);
-    bytes.resize(size, value)?;
-    Ok(bytes)
+    Ok(vec![in heap; value; size]?)
+}
+
+fn set_output(buffers: &mut Buffers, heap: Global, size: usize) -> Result<Answer, Trouble>
+    ensures { elim result [ Ok a ↦ buffers.new.output.items ≡ replicate size 238 | Err t ↦ IsError t × (buffers.new ≡ buffers.old) ] }
+{
+    buffers.output = buffer(heap, size, FRESH)?;
+    Ok(Answer::Done)
+}
+
+fn set_work(
+    buffers: &mut Buffers,
+    heap: Global,
+    first: usize,
+    second: usize,
+) -> Result<Answer, Trouble>
+    ensures { elim result [ Ok a ↦ (vec_len buffers.new.work ≡ first) × (vec_len buffers.new.scratch ≡ second) | Err t ↦ IsError t × (buffers.new ≡ buffers.old) ] }
+{
+    let work = buffer(heap, first, 0)?;
+    buffers.scratch = buffer(heap, second, 0)?;
+    buffers.work = work;
+    Ok(Answer::Done)
+}
+
+fn set_form(
+    form: &mut Option<Form>,
+    shape: &[usize],
+    code: usize,
+    fill: &[u8],
+) -> Result<Answer, Trouble>
+    ensures answer { FormSet shape.now code fill.now form.new result }
+    ensures same { OnErr result (form.new ≡ form.old) }
+{
+    let made = Form::new(shape, code, fill)?;
+    *form = Some(made);
+    Ok(Answer::Form(made.elements(), made.bytes()))
+}
+
+fn set_stages(stages: &mut Option<Stages>, names: &[StageName]) -> Result<Answer, Trouble>
+    ensures answer { StagesSet names.now stages.new result }
+    ensures same { OnErr result (stages.new ≡ stages.old) }
+{
+    *stages = Some(built(names)?);
+    Ok(Answer::Done)
+}
+
+// The stages, once there are any.
+fn chosen(stages: &Option<Stages>) -> Result<&Stages, Complaint>
+    ensures { elim result [ Ok s ↦ stages.now ≡ Some s.now | Err c ↦ (stages.now ≡ None) × (c ≡ Complaint.NoStages) ] }
+{
+    stages.as_ref().ok_or(Complaint::NoStages)
+}
+
+// What each single can read and decode, in decode order.
+fn singles(heap: Global, stages: &Option<Stages>) -> Result<Answer, Trouble> {
+    let stages = chosen(stages)?;
+    let found = (0..4)
+        .map_while(|single| stages.capability(single).ok())
+        .collect(heap)?;
+    Ok(Answer::Singles(found))
+}
+
+// The length at every place, if the decoded length is taken.
+fn lengths(heap: Global, stages: &Option<Stages>, decoded: usize) -> Result<Answer, Trouble> {
+    let stages = chosen(stages)?;
+    stages.size(&decoded, 0)?;
+    let lengths = (0..5)
+        .map_while(|place| stages.size(&decoded, place).ok())
+        .collect(heap)?;
+    Ok(Answer::Lengths(lengths))
+}
+
+fn encode(stages: &Option<Stages>, buffers: &mut Buffers, input: &[u8]) -> Result<Answer, Trouble>
+    ensures { Encodes stages.now input.now buffers.old.output.items (vec_len buffers.old.work) (vec_len buffers.old.scratch) buffers.new.output.items result }
+{
+    let stages = chosen(stages)?;
+    buffers.output.fill(FRESH);
+    let count = buffers.encode(stages, &input.len(), input)?;
+    Ok(Answer::Output(count))
+}
+
+fn undo(stages: &Option<Stages>, buffers: &mut Buffers, undo: &Undo) -> Result<Answer, Trouble>
+    ensures { Undoes stages.now undo.now.decoded undo.now.from undo.now.to undo.now.checks undo.now.input.items buffers.old.output.items (vec_len buffers.old.work) (vec_len buffers.old.scratch) buffers.new.output.items result }
+{
+    let stages = chosen(stages)?;
+    buffers.output.fill(FRESH);
+    let count = buffers.undo(
+        stages,
+        &undo.decoded,
+        undo.from,
+        undo.to,
+        undo.checks,
+        undo.input.as_slice(),
+    )?;
+    Ok(Answer::Output(count))
+}
+
+// The bytes before the last four.
+fn before_checksum(mut bytes: Vec<u8>) -> Result<Answer, Trouble>
+    ensures { BeforeSum bytes.items result }
+{
+    let count = data_before_checksum(bytes.as_slice())?.len();
+    bytes.truncate(count);
+    Ok(Answer::Bytes(bytes))
 }
 
 impl Session {
-    pub fn new(heap: Global) -> Result<Session, Trouble> {
+    // At first there are no form and no stages, and each buffer has the 4,096 bytes of the largest chunk.
+    pub fn new(heap: Global) -> Result<Session, AllocError>
+        ensures form { IfOk result (λ s. s.form ≡ None) }
+        ensures stages { IfOk result (λ s. s.stages ≡ None) }
+        ensures output { IfOk result (λ s. vec_items s.buffers.output ≡ replicate 4096 238) }
+        ensures work { IfOk result (λ s. vec_len s.buffers.work ≡ 4096) }
+        ensures scratch { IfOk result (λ s. vec_len s.buffers.scratch ≡ 4096) }
+    {
+        let mut buffers = Buffers::new(heap, 4096)?;
+        buffers.output.fill(FRESH);
         Ok(Session {
             form: None,
             stages: None,
-            output: buffer(heap, 4096, FRESH)?,
-            work: buffer(heap, 4096, 0)?,
-            scratch: buffer(heap, 4096, 0)?,
+            buffers,
         })
-    }
-
-    fn set_output(&mut self, heap: Global, size: usize) -> Result<Answer, Trouble>
-        ensures form { self.new.form ≡ self.old.form }
-        ensures stages { self.new.stages ≡ self.old.stages }
-        ensures cases { elim result [ Ok a ↦ self.new.output.items ≡ replicate size 238 | Err t ↦ IsError t × (self.new ≡ self.old) ] }
-    {
-        self.output = buffer(heap, size, FRESH)?;
-        Ok(Answer::Done)
-    }
-
-    fn set_work(&mut self, heap: Global, first: usize, second: usize) -> Result<Answer, Trouble>
-        ensures form { self.new.form ≡ self.old.form }
-        ensures stages { self.new.stages ≡ self.old.stages }
-        ensures cases { elim result [ Ok a ↦ (vec_len self.new.work ≡ first) × (vec_len self.new.scratch ≡ second) | Err t ↦ IsError t × (self.new ≡ self.old) ] }
-    {
-        let work = buffer(heap, first, 0)?;
-        self.scratch = buffer(heap, second, 0)?;
-        self.work = work;
-        Ok(Answer::Done)
-    }
-
-    fn set_form(&mut self, shape: &[usize], code: usize, fill: &[u8]) -> Result<Answer, Trouble>
-        ensures answer { FormSet shape.now code fill.now self.new.form result }
-        ensures same { OnErr result (self.new ≡ self.old) }
-        ensures stages { self.new.stages ≡ self.old.stages }
-    {
-        let form = Form::new(shape, code, fill)?;
-        self.form = Some(form);
-        Ok(Answer::Form(form.elements(), form.bytes()))
-    }
-
-    fn set_stages(&mut self, names: &[StageName]) -> Result<Answer, Trouble>
-        ensures answer { StagesSet names.now self.new.stages result }
-        ensures same { OnErr result (self.new ≡ self.old) }
-        ensures form { self.new.form ≡ self.old.form }
-    {
-        self.stages = Some(built(names)?);
-        Ok(Answer::Done)
-    }
-
-    fn stages(&self) -> Result<&Stages, Trouble>
-        ensures { elim result [ Ok s ↦ self.now.stages ≡ Some s.now | Err t ↦ (self.now.stages ≡ None) × IsError t ] }
-    {
-        match &self.stages {
-            Some(stages) => Ok(stages),
-            None => Err(Trouble::Error(Complaint::NoStages)),
-        }
-    }
-
-    fn singles(&self, heap: Global) -> Result<Answer, Trouble> {
-        let stages = self.stages()?;
-        let mut found = Vec::new(heap);
-        for single in 0..4 {
-            match stages.capability(single) {
-                Ok(capability) => found.push(capability)?,
-                Err(_) => break,
-            }
-        }
-        Ok(Answer::Singles(found))
-    }
-
-    fn lengths(&self, heap: Global, decoded: usize) -> Result<Answer, Trouble> {
-        let stages = self.stages()?;
-        let mut lengths = Vec::new(heap);
-        lengths.push(stages.size(&decoded, 0)?)?;
-        for place in 1..5 {
-            match stages.size(&decoded, place) {
-                Ok(length) => lengths.push(length)?,
-                Err(_) => break,
-            }
-        }
-        Ok(Answer::Lengths(lengths))
-    }
-
-    fn encode(&mut self, input: &[u8]) -> Result<Answer, Trouble>
-        ensures form { self.new.form ≡ self.old.form }
-        ensures stages { self.new.stages ≡ self.old.stages }
-        ensures answer { Encodes self.old.stages input.now self.old.output.items (vec_len self.old.work) (vec_len self.old.scratch) self.new.output.items result }
-    {
-        let Some(stages) = &self.stages else {
-            return Err(Trouble::Error(Complaint::NoStages));
-        };
-        self.output.fill(FRESH);
-        let count = coding::encode(
-            stages,
-            &input.len(),
-            input,
-            self.output.as_mut_slice(),
-            self.work.as_mut_slice(),
-            self.scratch.as_mut_slice(),
-        )?;
-        Ok(Answer::Output(count))
-    }
-
-    fn undo(&mut self, undo: &Undo) -> Result<Answer, Trouble>
-        ensures form { self.new.form ≡ self.old.form }
-        ensures stages { self.new.stages ≡ self.old.stages }
-        ensures answer { Undoes self.old.stages undo.now.decoded undo.now.from undo.now.to undo.now.checks undo.now.input.items self.old.output.items (vec_len self.old.work) (vec_len self.old.scratch) self.new.output.items result }
-    {
-        let Some(stages) = &self.stages else {
-            return Err(Trouble::Error(Complaint::NoStages));
-        };
-        self.output.fill(FRESH);
-        let count = coding::undo(
-            stages,
-            &undo.decoded,
-            undo.from,
-            undo.to,
-            undo.checks,
-            undo.input.as_slice(),
-            self.output.as_mut_slice(),
-            self.work.as_mut_slice(),
-            self.scratch.as_mut_slice(),
-        )?;
-        Ok(Answer::Output(count))
     }
 
     // Carries out a command. Whatever is not accepted leaves the form and the stages as they were.
@@ -173,28 +164,19 @@ impl Session {
     {
         match command {
             Command::Help => Ok(Answer::Commands),
-            Command::Out(size) => self.set_output(heap, size),
-            Command::Work(first, second) => self.set_work(heap, first, second),
-            Command::Peek => Ok(Answer::Output(self.output.len())),
-            Command::Form(shape, code, fill) => {
-                self.set_form(shape.as_slice(), code, fill.as_slice())
+            Command::Out(size) => set_output(&mut self.buffers, heap, size),
+            Command::Work { first, second } => set_work(&mut self.buffers, heap, first, second),
+            Command::Peek => Ok(Answer::Output(self.buffers.output.len())),
+            Command::Form { shape, code, fill } => {
+                set_form(&mut self.form, shape.as_slice(), code, fill.as_slice())
             }
-            Command::Stages(names) => self.set_stages(names.as_slice()),
-            Command::Singles => self.singles(heap),
-            Command::Lengths(decoded) => self.lengths(heap, decoded),
-            Command::Encode(input) => self.encode(input.as_slice()),
-            Command::Undo(undo) => self.undo(&undo),
+            Command::Stages(names) => set_stages(&mut self.stages, names.as_slice()),
+            Command::Singles => singles(heap, &self.stages),
+            Command::Lengths(decoded) => lengths(heap, &self.stages, decoded),
+            Command::Encode(input) => encode(&self.stages, &mut self.buffers, input.as_slice()),
+            Command::Undo(undo_of) => undo(&self.stages, &mut self.buffers, &undo_of),
             Command::Sum(bytes) => Ok(Answer::Sum(h5_checksum_fletcher32(bytes.as_slice()))),
             Command::Data(bytes) => before_checksum(bytes),
         }
     }
-}
-
-// The bytes before the last four.
-fn before_checksum(mut bytes: Vec<u8>) -> Result<Answer, Trouble>
-    ensures { BeforeSum bytes.items result }
-{
-    let count = data_before_checksum(bytes.as_slice())?.len();
-    bytes.truncate(count);
-    Ok(Answer::Bytes(bytes))
 }

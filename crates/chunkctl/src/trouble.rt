@@ -1,14 +1,15 @@
 // Why a line is not carried out.
-ghost use Rattle.std.specs.Prelude.{◌≡◌};
+ghost use Rattle.std.specs.Prelude.{◌≡◌, Some};
 ghost use Rattle.chunkctl.specs.declared.trouble.Trouble.TheVariants.{Refused, Error};
 ghost use Rattle.chunkctl.specs.declared.trouble.Complaint.TheVariants.{NoMemory};
-ghost use Rattle.chunkctl.specs.Shown.{complaint_text};
+ghost use Rattle.chunkctl.specs.Shown.{complaint_text, trouble_text};
 
 use form::fault::Fault;
 use std::alloc::AllocError;
+use std::fmt;
 
 // What is wrong with a line, or with its moment.
-#[derive(Clone, Copy)]
+#[derive(Clone, Copy, Debug)]
 pub enum Complaint {
     NoMemory,
     LineTooLong,
@@ -24,24 +25,34 @@ pub enum Complaint {
     NoStages,
 }
 
-impl Complaint {
-    pub fn text(&self) -> &'static str
-        ensures { result.now ≡ complaint_text self.now }
-    {
+impl fmt::Display for Complaint {
+    ghost output = { λ c. Some (complaint_text c) };
+
+    fn fmt<W: fmt::Write>(&self, f: &mut fmt::Formatter<W>) -> fmt::Result {
         match self {
-            Complaint::NoMemory => "no memory",
-            Complaint::LineTooLong => "line too long",
-            Complaint::UnknownCommand => "no such command",
-            Complaint::WordCount => "wrong number of words",
-            Complaint::Number => "a number is expected, of at most 64 bits",
-            Complaint::Hex => "lower-case hexadecimal is expected, or -",
-            Complaint::Shape => "lengths joined by x are expected, or -",
-            Complaint::DataType => "no such data type",
-            Complaint::Stage => "no such stage",
-            Complaint::Switch => "on or off is expected",
-            Complaint::BufferTooLarge => "buffer too large",
-            Complaint::NoStages => "no stages yet",
+            Complaint::NoMemory => write!(f, "no memory"),
+            Complaint::LineTooLong => write!(f, "line too long"),
+            Complaint::UnknownCommand => write!(f, "no such command"),
+            Complaint::WordCount => write!(f, "wrong number of words"),
+            Complaint::Number => write!(f, "a number is expected, of at most 64 bits"),
+            Complaint::Hex => write!(f, "lower-case hexadecimal is expected, or -"),
+            Complaint::Shape => write!(f, "lengths joined by x are expected, or -"),
+            Complaint::DataType => write!(f, "no such data type"),
+            Complaint::Stage => write!(f, "no such stage"),
+            Complaint::Switch => write!(f, "on or off is expected"),
+            Complaint::BufferTooLarge => write!(f, "buffer too large"),
+            Complaint::NoStages => write!(f, "no stages yet"),
         }
+    }
+}
+
+impl std::error::Error for Complaint {}
+
+impl From<AllocError> for Complaint {
+    ghost from_gives = { λ _ c. c ≡ NoMemory };
+
+    fn from(_e: AllocError) -> Complaint {
+        Complaint::NoMemory
     }
 }
 
@@ -51,6 +62,23 @@ pub enum Trouble {
     Refused(Fault),
     // the line is no command, or makes no sense now
     Error(Complaint),
+}
+
+impl fmt::Display for Trouble {
+    ghost output = { λ t. Some (trouble_text t) };
+
+    fn fmt<W: fmt::Write>(&self, f: &mut fmt::Formatter<W>) -> fmt::Result {
+        match self {
+            Trouble::Refused(fault) => {
+                let number = fault.number();
+                match fault.single() {
+                    Some(single) => write!(f, "refused {number} at {single}"),
+                    None => write!(f, "refused {number}"),
+                }
+            }
+            Trouble::Error(complaint) => write!(f, "error: {complaint}"),
+        }
+    }
 }
 
 impl From<Fault> for Trouble {
@@ -73,14 +101,6 @@ impl From<AllocError> for Trouble {
     ghost from_gives = { λ _ r. r ≡ Error NoMemory };
 
     fn from(_e: AllocError) -> Trouble {
-        Trouble::Error(Complaint::NoMemory)
-    }
-}
-
-impl<T: Drop> From<std::alloc::AllocFailed<T>> for Trouble {
-    ghost from_gives = { λ _ r. r ≡ Error NoMemory };
-
-    fn from(_e: std::alloc::AllocFailed<T>) -> Trouble {
         Trouble::Error(Complaint::NoMemory)
     }
 }

@@ -1,72 +1,32 @@
 // Runs a vector through the library.
 use crate::kind::Kind;
 use crate::vector::Vector;
+use buffers::Buffers;
 use byte_codecs::byte_codec::ByteCodec;
 use fletcher32::fletcher32_codec::Fletcher32Codec;
 use form::fault::Fault;
 use pair::Pair;
 use shuffle::shuffle_codec::ShuffleCodec;
-use stage::codec::Codec;
-use std::alloc::{AllocError, Global};
 
 // Two byte stages; the inner encodes first.
 type Stages = Pair<ByteCodec, ByteCodec, usize>;
 
-#[derive(Drop)]
-pub struct Buffers {
-    output: Vec<u8>,
-    work: Vec<u8>,
-    scratch: Vec<u8>,
+// Undoes all singles into the output, with checks on.
+fn undo_all(
+    buffers: &mut Buffers,
+    stages: &Stages,
+    decoded: usize,
+    singles: usize,
+    input: &[u8],
+) -> Result<usize, Fault> {
+    buffers.undo(stages, &decoded, 0, singles, true, input)
 }
 
-impl Buffers {
-    pub fn new(heap: Global) -> Result<Buffers, AllocError> {
-        Ok(Buffers {
-            output: vec![in heap; 0; 4096]?,
-            work: vec![in heap; 0; 4096]?,
-            scratch: vec![in heap; 0; 4096]?,
-        })
-    }
-
-    // Encodes into the output.
-    fn encode(&mut self, stages: &Stages, input: &[u8]) -> Result<usize, Fault> {
-        coding::encode(
-            stages,
-            &input.len(),
-            input,
-            self.output.as_mut_slice(),
-            self.work.as_mut_slice(),
-            self.scratch.as_mut_slice(),
-        )
-    }
-
-    // Undoes all singles into the output, with checks on.
-    fn undo(
-        &mut self,
-        stages: &Stages,
-        decoded: usize,
-        singles: usize,
-        input: &[u8],
-    ) -> Result<usize, Fault> {
-        coding::undo(
-            stages,
-            &decoded,
-            0,
-            singles,
-            true,
-            input,
-            self.output.as_mut_slice(),
-            self.work.as_mut_slice(),
-            self.scratch.as_mut_slice(),
-        )
-    }
-
-    // Whether a call left just these bytes.
-    fn left(&self, count: Result<usize, Fault>, bytes: &[u8]) -> bool {
-        match count {
-            Ok(n) => n <= self.output.len() && &self.output.as_slice()[0..n] == bytes,
-            Err(_) => false,
-        }
+// Whether a call left just these bytes in the output.
+fn left(buffers: &Buffers, count: Result<usize, Fault>, bytes: &[u8]) -> bool {
+    match count {
+        Ok(n) => n <= buffers.output.len() && &buffers.output.as_slice()[0..n] == bytes,
+        Err(_) => false,
     }
 }
 
@@ -100,17 +60,17 @@ fn both_ways(
     input: &[u8],
     bytes: &[u8],
 ) -> bool {
-    let count = buffers.encode(stages, input);
-    if !buffers.left(count, bytes) {
+    let count = buffers.encode(stages, &input.len(), input);
+    if !left(buffers, count, bytes) {
         return false;
     }
-    let count = buffers.undo(stages, input.len(), singles, bytes);
-    buffers.left(count, input)
+    let count = undo_all(buffers, stages, input.len(), singles, bytes);
+    left(buffers, count, input)
 }
 
 // Whether the checksum that is stored after the input is these bytes.
 fn stored_checksum(buffers: &mut Buffers, stages: &Stages, input: &[u8], bytes: &[u8]) -> bool {
-    match buffers.encode(stages, input) {
+    match buffers.encode(stages, &input.len(), input) {
         Ok(n) => {
             let output = buffers.output.as_slice();
             let start = input.len();
@@ -128,11 +88,14 @@ pub fn agrees(buffers: &mut Buffers, vector: &Vector) -> bool {
     };
     match (vector.kind, &vector.output) {
         (Kind::ShuffleRefuse, None) => {
-            matches!(buffers.encode(&stages, input), Err(Fault::Multiple))
+            matches!(
+                buffers.encode(&stages, &input.len(), input),
+                Err(Fault::Multiple)
+            )
         }
         (Kind::ChecksumFileBad, None) => {
             let decoded = input.len().saturating_sub(4);
-            let undone = buffers.undo(&stages, decoded, singles, input);
+            let undone = undo_all(buffers, &stages, decoded, singles, input);
             matches!(undone, Err(Fault::Checksum(0)))
         }
         (Kind::ShuffleRefuse | Kind::ChecksumFileBad, Some(_)) => false,

@@ -1,7 +1,8 @@
 // Compares the library with vectors that other programs made: a vector to a line, `KIND PARAMS INPUT OUTPUT PEER`.
 #![tactic(auto)]
 
-use check::{Buffers, agrees};
+use buffers::Buffers;
+use check::agrees;
 use kind::{KINDS, Tally};
 use std::io;
 use std::io::{BufRead, BufReader};
@@ -36,7 +37,7 @@ fn test(
 
 fn main(rt: HostRuntime) -> io::Result<()> {
     let heap = rt.alloc();
-    let mut buffers = Buffers::new(heap)?;
+    let mut buffers = Buffers::new(heap, 4096)?;
     let mut tally = Tally::new();
     let mut number: u64 = 0;
     for line in BufReader::new(heap, rt.stdin())?.lines(heap) {

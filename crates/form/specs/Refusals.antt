@@ -1,5 +1,5 @@
 -- The refusals: each case of the enum by its number and its values.
-use Rattle.std.specs.Prelude.{◌≡◌, ℕ, Bool, cond, List, [], ◌∷◌, ◌++◌, Some, None, Ok, Err, codes, decimal, Option, Result}
+use Rattle.std.specs.Prelude.{◌≡◌, ℕ, Bool, cond, List, [], ◌∷◌, ◌++◌, Some, None, Ok, Err, codes, decimal, slice_get, Option, Result}
 use Rattle.form.specs.declared.fault.Fault.{Fault}
 use Rattle.form.specs.declared.fault.Fault.TheVariants.{Shape, DataType, ArraySize, FillValue, CodecOrder, NoRoom, AxisOrder, ElementSize, Dimensions, Endianness, Multiple, TooLong, Length, BufferShort, Checksum, Capacity, Subset, ByteRange, Absent, CellLayout}
 
@@ -39,12 +39,8 @@ refusal Absent = plain 19
 refusal CellLayout = plain 20
 
 -- the first of a refusal's values, if it has one
-abbrev pub first : List ℕ → Option ℕ
-first [] = None
-first (k ∷ ks) = Some k
-
 abbrev pub value_of : Refusal → Option ℕ
-value_of r = first r.values
+value_of r = slice_get r.values 0
 
 -- the single that a failed test names, if it does
 abbrev pub at_text : Option ℕ → List ℕ

@@ -1,7 +1,7 @@
 // The settings, and a span in which checks are off.
 ghost use Rattle.std.specs.Prelude.{◌≡◌, true, false, length, Ok};
-ghost use Rattle.form.specs.Refusals.{told, only_if};
 ghost use Rattle.std.specs.List.{list_all};
+ghost use Rattle.form.specs.Refusals.{told, only_if};
 
 use crate::fault::Fault;
 use std::mem;

@@ -1,6 +1,6 @@
 -- What the loop over the words keeps.
 use Rattle.std.specs.Prelude.{◌≡◌, ℕ, ◌+◌, ◌*◌, ◌^◌, ◌<◌, ◌≤◌, List, [], ◌∷◌, length, drop, slice_index}
-use Rattle.std.proofs.Common.{sym, refl, ap, ◌∙◌, arith}
+use Rattle.std.proofs.Common.{sym, refl, ap, ◌∙◌, add_assoc, arith}
 use Rattle.std.proofs.lemmas.Bool.Decides.{nat_tests}
 use Rattle.fletcher32.specs.Fletcher32.{words, sum, running, folded}
 
@@ -15,10 +15,9 @@ folded_both a b c d h k = grind (arith, nat_tests)
 folded-running : (ws : List ℕ) (s r t u : ℕ) → folded s ≡ folded r → folded t ≡ folded u → folded (t + sum (running s ws)) ≡ folded (u + sum (running r ws))
 folded-running [] s r t u h k = folded_first t u 0 k
 folded-running (w ∷ ws) s r t u h k =
-    let hw : folded (s + w) ≡ folded (r + w) = folded_first s r w h in
-    let e : t + ((s + w) + sum (running (s + w) ws)) ≡ (t + (s + w)) + sum (running (s + w) ws) = omega arith in
-    let f : (u + (r + w)) + sum (running (r + w) ws) ≡ u + ((r + w) + sum (running (r + w) ws)) = omega arith in
-    ap folded e ∙ folded-running ws (s + w) (r + w) (t + (s + w)) (u + (r + w)) hw (folded_both t u (s + w) (r + w) k hw) ∙ ap folded f
+    let hw = folded_first s r w h in
+    let rest = folded-running ws (s + w) (r + w) (t + (s + w)) (u + (r + w)) hw (folded_both t u (s + w) (r + w) k hw) in
+    simp add_assoc (simp add_assoc at rest)
 
 -- what the loop keeps: both sums are small, and with what is left they fold to the whole sums' folds
 pub record Kept (all left : List ℕ) (s t : ℕ) : Type 0 where
@@ -36,13 +35,13 @@ module _ (all : List ℕ) (s t r u w : ℕ)
   where
     more : (left rest : List ℕ) → words left ≡ w ∷ words rest → Kept all left s t → Kept all rest r u
     more left rest e k =
-        let a : (s + w) + sum (words rest) ≡ s + (w + sum (words rest)) = omega arith in
-        let b : (t + (s + w)) + sum (running (s + w) (words rest)) ≡ t + ((s + w) + sum (running (s + w) (words rest))) = omega arith in
+        let k_sum = rw e at k.sum_kept in
+        let k_sums = rw e at k.sums_kept in
         record {
           small_s = lr;
           small_t = lu;
-          sum_kept = folded_first r (s + w) (sum (words rest)) er ∙ ap folded a ∙ ap (λ ws. folded (s + sum ws)) (sym e) ∙ k.sum_kept;
-          sums_kept = folded-running (words rest) r (s + w) u (t + (s + w)) er eu ∙ ap folded b ∙ ap (λ ws. folded (t + sum (running s ws))) (sym e) ∙ k.sums_kept;
+          sum_kept = folded_first r (s + w) (sum (words rest)) er ∙ simp add_assoc k_sum;
+          sums_kept = folded-running (words rest) r (s + w) u (t + (s + w)) er eu ∙ simp add_assoc (simp add_assoc at k_sums);
         }
 
     two : (left : List ℕ) → 2 ≤ length left → w ≡ slice_index left 0 * 256 + slice_index left 1 → words left ≡ w ∷ words (drop 2 left)

@@ -1,7 +1,8 @@
 -- A folded sum is small, and a checksum that is stored is loaded again.
-use Rattle.std.specs.Prelude.{◌≡◌, ℕ, zero, suc, ◌<◌, List}
+use Rattle.std.specs.Prelude.{◌≡◌, ℕ, ◌<◌, List}
 use Rattle.std.proofs.Common.{arith}
 use Rattle.std.proofs.lemmas.Bool.Decides.{nat_tests}
+use Rattle.std.proofs.lemmas.Grind.{common_steps}
 use Rattle.std.proofs.lemmas.Nat.{from_le_bytes-to_le_bytes_4}
 use Rattle.stage.specs.Stage.{Bytes}
 use Rattle.fletcher32.specs.Fletcher32.{words, sum, running, folded, fletcher32, stored, loaded}
@@ -11,11 +12,7 @@ folded_small v = grind (arith, nat_tests)
 
 -- a checksum has four bytes
 pub Bytes-stored : (c : ℕ) → Bytes (stored c)
-Bytes-stored c zero h = omega arith
-Bytes-stored c (suc zero) h = omega arith
-Bytes-stored c (suc (suc zero)) h = omega arith
-Bytes-stored c (suc (suc (suc zero))) h = omega arith
-Bytes-stored c (suc (suc (suc (suc k)))) h = omega arith
+Bytes-stored c k h = grind (arith, common_steps)
 
 pub loaded-stored : (x : List ℕ) → loaded (stored (fletcher32 x)) ≡ fletcher32 x
 loaded-stored x =

@@ -1,8 +1,8 @@
 -- What the loop over the elements of an array keeps.
-use Rattle.std.proofs.Common.{◌≡◌, ℕ, ◌+◌, ◌-◌, ◌*◌, ◌/◌, ◌%◌, ◌<◌, ◌≤◌, List, [], ◌∷◌, ◌++◌, length, take, drop, sym, ap, ◌∙◌, subst, suc-mul, one-mul, add-one, arith}
-use Rattle.std.proofs.lemmas.Nat.{mul-le, le-div, div-add-mod'}
+use Rattle.std.proofs.Common.{◌≡◌, ℕ, ◌+◌, ◌-◌, ◌*◌, ◌/◌, ◌%◌, ◌<◌, ◌≤◌, List, ◌∷◌, ◌++◌, length, take, drop, sym, ap, ◌∙◌, subst, suc-mul, one-mul, add-one, arith}
+use Rattle.std.proofs.lemmas.Nat.{mul-le, le-div}
 use Rattle.std.proofs.lemmas.Nat.Gcd.{le_of_dvd, dvd_of_mod-eq-zero}
-use Rattle.std.proofs.lemmas.List.{append_assoc, append-nil, drop-drop, take_all, length-drop, length-take-le}
+use Rattle.std.proofs.lemmas.List.{append_assoc, drop-drop, length-drop, length-take-le}
 use Rattle.std.proofs.lemmas.Slice.{take-put_mid, drop-put_mid}
 use borrow.Rule.Slice.PartMut.{put_mid}
 use Rattle.stage.specs.Elements.{little, digits, elements, bytes}
@@ -14,11 +14,11 @@ abbrev pub Turned : ℕ → (ℕ → List ℕ → List ℕ) → ℕ → List ℕ
 Turned w F n all e p x = take (e * w) x ++ bytes w (F p (elements w (n - e) (drop (e * w) x))) ≡ bytes w all
 
 -- an array of l bytes that is not empty has an element, in a group whose numbers have u bytes
-pub whole : (l w u : ℕ) → w ≡ u → 1 ≤ u → 0 < l → l % u ≡ 0 → (0 < l / w) × (w ≤ l) × (l ≡ l / w * w)
-whole l w u e p q h =
+pub some_whole : (l w u : ℕ) → w ≡ u → 1 ≤ u → 0 < l → l % u ≡ 0 → (0 < l / w) × (w ≤ l)
+some_whole l w u e p q h =
     let m : l % w ≡ 0 = subst (λ k. l % k ≡ 0) (sym e) h in
     let k : w ≤ l = le_of_dvd q (dvd_of_mod-eq-zero w m) in
-    (le-div 1 l w (omega arith) (omega arith), k, omega (arith, div-add-mod' l w))
+    (le-div 1 l w (omega arith) (omega arith), k)
 
 next_is : (e w : ℕ) → (e + 1) * w ≡ e * w + w
 next_is e w = ap (λ k. k * w) (add-one e) ∙ suc-mul e w
@@ -62,15 +62,4 @@ module _ (w : ℕ) (F : ℕ → List ℕ → List ℕ) (n : ℕ) where
       ∙ ap (λ a. a ++ bytes w (F q vs)) front
       ∙ append_assoc (take (e * w) x) (digits w y) (bytes w (F q vs))
       ∙ ap (λ us. take (e * w) x ++ bytes w us) (sym r)
-      ∙ g
-
-  -- all of them
-  pub turned_all : (all : List ℕ) (e p : ℕ) (x : List ℕ) → e ≡ n → length x ≡ n * w → F p [] ≡ [] → Turned w F n all e p x → x ≡ bytes w all
-  turned_all all e p x i l f g =
-      let z : n - e ≡ 0 = omega arith in
-      let k : e * w ≡ n * w = ap (λ j. j * w) i in
-      sym (take_all (e * w) x (omega arith))
-      ∙ sym (append-nil (take (e * w) x))
-      ∙ ap (λ r. take (e * w) x ++ bytes w r) (sym f)
-      ∙ ap (λ j. take (e * w) x ++ bytes w (F p (elements w j (drop (e * w) x)))) (sym z)
       ∙ g

@@ -65,6 +65,7 @@ impl Gathering {
         ensures { target.new ≡ gathered_by self.now source.now }
     {
         let size = self.of.data_type.size();
+        // The elements are counted, since no clause of chunks_exact_mut says what its chunks hold in the end.
         for e in 0..self.of.elements() {
             let from = self.seat(e) * size;
             let to = e * size;

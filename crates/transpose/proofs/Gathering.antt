@@ -33,10 +33,6 @@ element_inside s c e h =
     let l = mul-le (suc e) s c s (omega arith) (omega arith) in
     omega arith
 
--- the items of a turn of a loop over two lists side by side, the one after k others
-abbrev pub Turn : List ℕ → List ℕ → ℕ → ℕ → ℕ → Type 0
-Turn xs ys k x y = (k < length xs) × (k < length ys) × ((d : ℕ) → x ≡ get_or xs k d) × ((d : ℕ) → y ≡ get_or ys k d)
-
 module _ (g : Gathering) where
   pub few_axes : g.of.dims ≤ 4
   few_axes = (form_facts g.of).few
@@ -74,19 +70,19 @@ module _ (g : Gathering) where
       }
 
   -- the same in a loop over the lengths and the order side by side
-  pub offset_turn : (at order : List ℕ) (n k len axis : ℕ) → ((a : ℕ) → a < g.of.dims → on at (on g.order.order a) < on g.of.lengths a)
+  pub offset_turn : {order : List ℕ} {n k len axis : ℕ} (at : List ℕ) → ((a : ℕ) → a < g.of.dims → on at (on g.order.order a) < on g.of.lengths a)
       → order ≡ take g.order.dims g.order.order → length order ≡ g.order.dims
       → n ≡ offset (on g.of.lengths) (λ a. on at (on g.order.order a)) k
-      → Turn g.of.lengths order k len axis
+      → (k < length g.of.lengths) × (k < length order) × ((d : ℕ) → len ≡ get_or g.of.lengths k d) × ((d : ℕ) → axis ≡ get_or order k d)
       → Step at n k len axis
-  offset_turn at order n k len axis h e le i t =
+  offset_turn {order} {n} {k} {len} {axis} at h e le i t =
       let l : k < g.order.dims = omega (arith, t.1) in
       let d = g.dims in
       offset_step at n k len axis h (omega arith) (t.2 0) (t.3 0 ∙ ap (λ v. get_or v k 0) e ∙ get_or-take g.order.dims g.order.order k 0 l) i
 
   -- the element that is read lies in the array
-  pub seat_inside : (size n m : ℕ) → size ≡ element_size g.of → n < element_count g.of → m ≡ seat_in g n → m * size + size ≤ array_bytes g.of
-  seat_inside size n m q h e =
+  pub seat_inside : {size n m : ℕ} → size ≡ element_size g.of → m ≡ seat_in g n → n < element_count g.of → m * size + size ≤ array_bytes g.of
+  seat_inside {size} {n} {m} q e h =
       let b = seat_below (on g.of.lengths) (on g.by.lengths) (on g.order.order) g.of.dims n g.follows (subst (λ v. n < v) (sym same_elements) h) in
       subst (λ v. m * v + v ≤ array_bytes g.of) (sym q) (element_inside (element_size g.of) (element_count g.of) m (omega arith))
 

@@ -1,11 +1,11 @@
 -- What loops over the axes keep.
-use Rattle.std.proofs.Common.{◌≡◌, ℕ, suc, ◌+◌, ◌-◌, ◌*◌, ◌/◌, ◌%◌, ◌<◌, ◌≤◌, eqb, List, length, get_or, set, sym, ap, ◌∙◌, subst, ⊎_elim, arith}
+use Rattle.std.proofs.Common.{◌≡◌, ℕ, suc, ◌+◌, ◌-◌, ◌*◌, ◌/◌, ◌%◌, ◌<◌, ◌≤◌, List, length, get_or, set, sym, ap, ◌∙◌, subst, ⊎_elim, arith}
 use Rattle.std.proofs.lemmas.Nat.{div_below}
 use Rattle.std.proofs.lemmas.List.{get_or-set_same, get_or-set_other}
-use Rattle.std.proofs.lemmas.Bool.{cond-true, cond-false, eq-eqb, ne_eqb, cases_eq}
+use Rattle.std.proofs.lemmas.Bool.{cases_eq}
 use Rattle.form.specs.Shapes.{count}
 use Rattle.stage.proofs.Gathers.{positive}
-use Rattle.axes.specs.Axes.{offset, index, place}
+use Rattle.axes.specs.Axes.{offset, index}
 use Rattle.axes.proofs.Numbers.{index_last, index_rest, offset_below, count_le}
 
 -- what a loop from the last axis down keeps: the axes from a on are in `at`, and `rest` has the others
@@ -19,7 +19,7 @@ peeled_at : {lens : ℕ → ℕ} {r n : ℕ} {at : ℕ → ℕ} {rest a : ℕ} �
 peeled_at {lens} {r} {n} {at} {rest} {a} h p = let e : a ≡ suc (a - 1) = omega arith in subst (Peeled lens r n at rest) e p
 
 -- the axis before a is not empty
-pub peeled_full : {lens : ℕ → ℕ} {r n : ℕ} {at : ℕ → ℕ} {rest a : ℕ} → 0 < a → Peeled lens r n at rest a → 0 < lens (a - 1)
+peeled_full : {lens : ℕ → ℕ} {r n : ℕ} {at : ℕ → ℕ} {rest a : ℕ} → 0 < a → Peeled lens r n at rest a → 0 < lens (a - 1)
 peeled_full {lens} {r} {n} {at} {rest} {a} h p = positive (lens (a - 1)) (count lens (a - 1)) rest (peeled_at h p).within
 
 -- one axis more
@@ -51,11 +51,3 @@ offset_small lens i a r n h f s v e =
 
 pub offset_more : (lens i : ℕ → ℕ) (a n : ℕ) → n ≡ offset lens i a → n * lens a + i a ≡ offset lens i (a + 1)
 offset_more lens i a n e = ap (λ v. v * lens a + i a) e ∙ ap (offset lens i) (next a)
-
-pub places_more : (order : ℕ → ℕ) (ps : List ℕ) (k : ℕ) → length ps ≡ 4 → order k < 4 → ((a : ℕ) → a < 4 → get_or ps a 0 ≡ place order k a) → (a : ℕ) → a < 4 → get_or (set ps (order k) k) a 0 ≡ place order (k + 1) a
-places_more order ps k l4 h i a la =
-    subst (λ v. get_or (set ps (order k) k) a 0 ≡ place order v a) (next k)
-    (⊎_elim
-    (λ (e : order k ≡ a). subst (λ v. get_or (set ps (order k) k) v 0 ≡ k) e (get_or-set_same ps (order k) k 0 (omega arith)) ∙ sym (cond-true (eqb (order k) a) k (place order k a) (eq-eqb (order k) a e)))
-    (λ (e : order k ≡ a → ⊥). get_or-set_other ps (order k) a k 0 (λ q. e (sym q)) ∙ i a la ∙ sym (cond-false (eqb (order k) a) k (place order k a) (ne_eqb (order k) a e)))
-    (cases_eq (order k) a))

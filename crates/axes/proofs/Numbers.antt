@@ -1,5 +1,6 @@
 -- An index and a number give each other, and a permuted array has as many elements.
-use Rattle.std.proofs.Common.{◌≡◌, ℕ, zero, suc, ◌+◌, ◌*◌, ◌/◌, ◌%◌, ◌<◌, ◌≤◌, Bool, true, false, cond, eqb, sym, refl, ap, ◌∙◌, subst, ⊎_elim, mul_assoc, mul_comm, arith}
+use Rattle.std.proofs.Common.{◌≡◌, ℕ, zero, suc, ◌+◌, ◌*◌, ◌/◌, ◌%◌, ◌<◌, ◌≤◌, Bool, true, false, cond, eqb, sym, refl, ap, ◌∙◌, subst, ⊎_elim, mul_comm, arith}
+use Rattle.std.proofs.Math.Nat.{mul_right_comm}
 use Rattle.std.proofs.lemmas.Nat.{div-mul-add, mod-mul-add, mul-le, div_below, mod_below, div-add-mod'}
 use Rattle.std.proofs.lemmas.Bool.{cond-true, cond-false, eq-eqb, ne_eqb, cases_eq, cases_lt}
 use Rattle.form.specs.Shapes.{count}
@@ -68,9 +69,6 @@ apart : (f : ℕ → ℕ) (b : Bool) (x y : ℕ) → cond b (f x) (f y) ≡ f (c
 apart f true x y = refl
 apart f false x y = refl
 
-swap_last : (a b c : ℕ) → (a * b) * c ≡ (a * c) * b
-swap_last a b c = mul_assoc a b c ∙ ap (λ v. a * v) (mul_comm b c) ∙ sym (mul_assoc a c b)
-
 changed : (g : ℕ → ℕ) (p v r : ℕ) → p < r → count (λ k. cond (eqb k p) v (g k)) r * g p ≡ count g r * v
 changed g p v zero h = absurd (omega arith)
 changed g p v (suc r) h =
@@ -80,13 +78,13 @@ changed g p v (suc r) h =
     let a : count g' r ≡ count g r = count_same g' g r (λ k l. cond-false (eqb k p) v (g k) (ne_eqb k p (λ q. omega arith))) in
     let b : g' r ≡ v = cond-true (eqb r p) v (g r) (eq-eqb r p (sym e)) in
     let d : g p ≡ g r = ap g e in
-    let c = swap_last (count g r) v (g r) in
+    let c = mul_right_comm (count g r) v (g r) in
     cc)
     (λ (e : p ≡ r → ⊥).
     let k = changed g p v r (omega arith) in
     let b : g' r ≡ g r = cond-false (eqb r p) v (g r) (ne_eqb r p (λ q. e (sym q))) in
-    let c = swap_last (count g' r) (g r) (g p) in
-    let d = swap_last (count g r) v (g r) in
+    let c = mul_right_comm (count g' r) (g r) (g p) in
+    let d = mul_right_comm (count g r) v (g r) in
     cc)
     (cases_eq p r)
 

@@ -16,10 +16,7 @@ use Rattle.transpose.specs.declared.transpose_codec.TransposeCodec.{TransposeCod
 use Rattle.transpose.specs.Transpose.{new_lengths, target, transposing}
 use Rattle.transpose.specs.Orders.{Ordered}
 use Rattle.transpose.specs.Transposed.{not_refused, out, home, same_volume, turned, turned_is}
-
--- a codec's entries are an order
-ordered_in : (t : TransposeCodec) → Ordered (on t.order) t.dims
-ordered_in t = record { ranged = t.ranged; found = t.found }
+use Rattle.transpose.proofs.Orders.{ordered_in}
 
 -- the codec answered the new form g for f
 module _ (t : TransposeCodec) (f g : Form) (r : ◌≡◌ {A = Result Form Refusal} (Ok g) (unless ((transposing t.order t.dims).refusal f) (Ok ((transposing t.order t.dims).coded f)))) where

@@ -2,20 +2,24 @@
 use Rattle.std.proofs.Common.{◌≡◌, ℕ, suc, ◌+◌, ◌-◌, ◌*◌, ◌<◌, ◌≤◌, List, ◌++◌, length, get_or, take, drop, sym, ap, ◌∙◌, subst, ⊎_elim, suc-mul, arith}
 use borrow.Rule.Slice.PartMut.{put_mid}
 use Rattle.std.proofs.lemmas.Nat.{mul-le}
-use Rattle.std.proofs.lemmas.List.{ext_get_or, get_or_append_left, get_or-append_right, get_or-take, get_or-drop, length-append, append_assoc, length-take-le, length-drop, take_at, drop-drop}
+use Rattle.std.proofs.lemmas.List.{get_or_append_left, get_or-append_right, get_or-take, get_or-drop, length-append, length-take-le, length-drop}
+use Rattle.std.proofs.lemmas.List.FromFn.{fill_by_all}
+use Rattle.std.proofs.lemmas.Slice.{take-put_mid}
 use Rattle.std.proofs.lemmas.Bool.{cases_lt}
 use Rattle.form.specs.Forms.{element_size}
 use Rattle.form.specs.Shapes.{on, count}
 use Rattle.form.proofs.Shapes.{positive}
 use Rattle.stage.specs.Arrays.{element_count, array_bytes}
 use Rattle.stage.specs.Gathers.{gathered, by_element}
-use Rattle.axes.specs.Axes.{offset, place}
+use Rattle.axes.specs.Axes.{offset}
 use Rattle.axes.proofs.Numbers.{Onto, count_same, count_permuted}
-use Rattle.axes.proofs.Seats.{place_below, seat_below}
+use Rattle.axes.proofs.Seats.{seat_below}
 use Rattle.axes.proofs.Loops.{offset_small, offset_more}
 use Rattle.transpose.specs.declared.gather.Gathering.{Gathering}
 use Rattle.transpose.specs.Gatherings.{seat_in}
+use Rattle.transpose.specs.Orders.{onto}
 use Rattle.transpose.specs.Transposed.{form_facts}
+use Rattle.transpose.proofs.Orders.{ordered_in}
 use Rattle.stage.proofs.Gathers.{length-gathered, get_or-gathered, element_byte}
 
 -- no more elements than bytes
@@ -29,16 +33,6 @@ element_inside s c e h =
     let l = mul-le (suc e) s c s (omega arith) (omega arith) in
     omega arith
 
--- a part of one list over a part of another
-pub copied : (source target part : List ℕ) (from to n k j : ℕ) → k ≡ n → j ≡ n → part ≡ take j (drop from source) → put_mid to k target part ≡ take to target ++ (take n (drop from source) ++ drop (to + n) target)
-copied source target part from to n k j ek ej e =
-    ap (λ v. take to target ++ (v ++ drop k (drop to target))) (e ∙ ap (λ v. take v (drop from source)) ej)
-    ∙ ap (λ v. take to target ++ (take n (drop from source) ++ v)) (ap (λ v. drop v (drop to target)) ek ∙ drop-drop n to target)
-
--- the items of a turn of a loop over two lists side by side, the one after k others
-abbrev pub Turn : List ℕ → List ℕ → ℕ → ℕ → ℕ → Type 0
-Turn xs ys k x y = (k < length xs) × (k < length ys) × ((d : ℕ) → x ≡ get_or xs k d) × ((d : ℕ) → y ≡ get_or ys k d)
-
 module _ (g : Gathering) where
   pub few_axes : g.of.dims ≤ 4
   few_axes = (form_facts g.of).few
@@ -47,8 +41,8 @@ module _ (g : Gathering) where
   pub same_elements : count (on g.by.lengths) g.of.dims ≡ element_count g.of
   same_elements =
       let o = g.order in
-      let onto : Onto (on o.order) g.of.dims = subst (Onto (on o.order)) g.dims (λ a l. (place (on o.order) o.dims a, place_below (on o.order) o.dims a o.some, o.found a l)) in
-      sym (count_permuted (on g.by.lengths) (on o.order) g.of.dims onto) ∙ count_same _ (on g.of.lengths) g.of.dims (λ a l. (g.follows a l).1)
+      let all = subst (Onto (on o.order)) g.dims (onto (on o.order) o.dims o.some (ordered_in o)) in
+      sym (count_permuted (on g.by.lengths) (on o.order) g.of.dims all) ∙ count_same _ (on g.of.lengths) g.of.dims (λ a l. (g.follows a l).1)
 
   pub some_elements : (1 ≤ element_count g.of) × (element_count g.of ≤ 4096)
   some_elements =
@@ -76,19 +70,19 @@ module _ (g : Gathering) where
       }
 
   -- the same in a loop over the lengths and the order side by side
-  pub offset_turn : (at order : List ℕ) (n k len axis : ℕ) → ((a : ℕ) → a < g.of.dims → on at (on g.order.order a) < on g.of.lengths a)
+  pub offset_turn : {order : List ℕ} {n k len axis : ℕ} (at : List ℕ) → ((a : ℕ) → a < g.of.dims → on at (on g.order.order a) < on g.of.lengths a)
       → order ≡ take g.order.dims g.order.order → length order ≡ g.order.dims
       → n ≡ offset (on g.of.lengths) (λ a. on at (on g.order.order a)) k
-      → Turn g.of.lengths order k len axis
+      → (k < length g.of.lengths) × (k < length order) × ((d : ℕ) → len ≡ get_or g.of.lengths k d) × ((d : ℕ) → axis ≡ get_or order k d)
       → Step at n k len axis
-  offset_turn at order n k len axis h e le i t =
+  offset_turn {order} {n} {k} {len} {axis} at h e le i t =
       let l : k < g.order.dims = omega (arith, t.1) in
       let d = g.dims in
       offset_step at n k len axis h (omega arith) (t.2 0) (t.3 0 ∙ ap (λ v. get_or v k 0) e ∙ get_or-take g.order.dims g.order.order k 0 l) i
 
   -- the element that is read lies in the array
-  pub seat_inside : (size n m : ℕ) → size ≡ element_size g.of → n < element_count g.of → m ≡ seat_in g n → m * size + size ≤ array_bytes g.of
-  seat_inside size n m q h e =
+  pub seat_inside : {size n m : ℕ} → size ≡ element_size g.of → m ≡ seat_in g n → n < element_count g.of → m * size + size ≤ array_bytes g.of
+  seat_inside {size} {n} {m} q e h =
       let b = seat_below (on g.of.lengths) (on g.by.lengths) (on g.order.order) g.of.dims n g.follows (subst (λ v. n < v) (sym same_elements) h) in
       subst (λ v. m * v + v ≤ array_bytes g.of) (sym q) (element_inside (element_size g.of) (element_count g.of) m (omega arith))
 
@@ -102,33 +96,26 @@ gathered_more g s e x part l h =
     let f : ℕ → ℕ = by_element g s in
     let p : List ℕ = gathered f (e * s) x in
     let lp = length-gathered f (e * s) x in
-    let la = length-append p part in
-    ext_get_or 0 (p ++ part) (gathered f (e * s + s) x) (omega (arith, length-gathered f (e * s + s) x))
-    (λ k lk.
-    let m : k < e * s + s = omega arith in
-    let right : get_or (gathered f (e * s + s) x) k 0 ≡ get_or x (f k) 0 = get_or-gathered f (e * s + s) x k m in
+    fill_by_all (λ k. get_or x (f k) 0) (p ++ part) (e * s + s) 0 (omega (arith, length-append p part))
+    (λ k m.
     ⊎_elim
-    (λ (u : k < e * s). get_or_append_left p part 0 k (omega arith) ∙ get_or-gathered f (e * s) x k u ∙ sym right)
+    (λ (u : k < e * s). get_or_append_left p part 0 k (omega arith) ∙ get_or-gathered f (e * s) x k u)
     (λ (u : e * s ≤ k).
     let b : k - e * s < s = omega arith in
     let z : e * s + (k - e * s) ≡ k = omega arith in
-    get_or-append_right p part (e * s) k 0 lp u ∙ h (k - e * s) b
-    ∙ ap (λ v. get_or x v 0) (sym (element_byte g s e (k - e * s) b) ∙ ap f z) ∙ sym right)
+    get_or-append_right p part (e * s) k 0 lp u ∙ h (k - e * s) b ∙ ap (λ v. get_or x v 0) (sym (element_byte g s e (k - e * s) b) ∙ ap f z))
     (cases_lt k (e * s)))
 
-pub element_next : (g : ℕ → ℕ) (s c e m : ℕ) (source out out' : List ℕ) → e < c → m ≡ g e → m * s + s ≤ length source → c * s ≤ length out
-    → out' ≡ take (e * s) out ++ (take s (drop (m * s) source) ++ drop (e * s + s) out)
-    → Gathered g s e source out → Gathered g s (e + 1) source out'
-element_next g s c e m source out out' le q lm lo w i =
-    let part : List ℕ = take s (drop (m * s) source) in
+-- element m of the source is written at the place of element e
+pub element_next : (g : ℕ → ℕ) (s c e m k j : ℕ) (source out part : List ℕ) → e < c → m ≡ g e → m * s + s ≤ length source → c * s ≤ length out
+    → j ≡ s → part ≡ take j (drop (m * s) source)
+    → Gathered g s e source out → Gathered g s (e + 1) source (put_mid (e * s) k out part)
+element_next g s c e m k j source out part le q lm lo ej w i =
     let ie = element_inside s c e le in
     let n : (e + 1) * s ≡ e * s + s = let z : suc e ≡ e + 1 = omega arith in ap (λ v. v * s) (sym z) ∙ suc-mul e s in
-    let lt : length (take (e * s) out) ≡ e * s = length-take-le (e * s) out (omega arith) in
-    let lpart : length part ≡ s = length-take-le s (drop (m * s) source) (simp length-drop (omega arith)) in
-    let la = length-append (take (e * s) out) part in
-    let assoc : out' ≡ (take (e * s) out ++ part) ++ drop (e * s + s) out = w ∙ simp append_assoc in
-    let front : take (e * s + s) out' ≡ take (e * s) out ++ part = ap (take (e * s + s)) assoc ∙ take_at (take (e * s) out ++ part) (drop (e * s + s) out) (e * s + s) (omega arith) in
+    let is : part ≡ take s (drop (m * s) source) = w ∙ ap (λ v. take v (drop (m * s) source)) ej in
+    let lpart : length part ≡ s = ap length is ∙ length-take-le s (drop (m * s) source) (simp length-drop (omega arith)) in
     let at : (b : ℕ) → b < s → get_or part b 0 ≡ get_or source (g e * s + b) 0 =
-    λ b lb. get_or-take s (drop (m * s) source) b 0 lb ∙ get_or-drop (m * s) source b 0 ∙ ap (λ v. get_or source (v * s + b) 0) q in
-    ap (λ v. take v out') n ∙ front ∙ ap (λ v. v ++ part) i ∙ gathered_more g s e source part lpart at
+    λ b lb. ap (λ v. get_or v b 0) is ∙ get_or-take s (drop (m * s) source) b 0 lb ∙ get_or-drop (m * s) source b 0 ∙ ap (λ v. get_or source (v * s + b) 0) q in
+    take-put_mid (e * s) k out part ((e + 1) * s) (n ∙ ap (λ v. e * s + v) (sym lpart)) (omega arith) ∙ ap (λ v. v ++ part) i ∙ gathered_more g s e source part lpart at
     ∙ ap (λ v. gathered (by_element g s) v source) (sym n)

@@ -1,4 +1,4 @@
--- When each axis is found among the entries, these are an order.
+-- What makes entries an order: a codec's are one, and so are the places in one, and entries among which each axis is found.
 use Rattle.std.proofs.Common.{◌≡◌, ℕ, ◌<◌, ◌≤◌, Bool, true, nat_eq, List, length, get_or, sym, ◌∙◌, subst, zero-add, arith}
 use Rattle.std.specs.List.{list_any, list_all, range_with_len}
 use Rattle.std.proofs.lemmas.Bool.{eqb-true, eq-eqb}
@@ -7,9 +7,30 @@ use Rattle.std.proofs.lemmas.List.Folds.{Any-from_list_any, list_any_at}
 use Rattle.std.proofs.lemmas.List.FromFn.{length-range_with_len, get_or-range_with_len}
 use Rattle.std.proofs.lemmas.List.Sums.{AllPass-from_list_all, list_all-from_AllPass}
 use Rattle.form.specs.Shapes.{on}
-use Rattle.axes.proofs.Numbers.{Onto, onto_within}
+use Rattle.axes.specs.Axes.{place}
+use Rattle.axes.proofs.Numbers.{Onto, onto_within, onto_once}
+use Rattle.axes.proofs.Seats.{place_below}
+use Rattle.transpose.specs.declared.transpose_codec.TransposeCodec.{TransposeCodec}
 use Rattle.transpose.specs.Transpose.{Permutes}
+use Rattle.transpose.specs.Orders.{Ordered, met_found, onto}
 
+-- a codec's entries are an order
+pub ordered_in : (t : TransposeCodec) → Ordered (on t.order) t.dims
+ordered_in t = record { ranged = t.ranged; found = t.found }
+
+-- the places in an order are an order too
+pub ordered_back : (t : TransposeCodec) (places : ℕ → ℕ) → ((a : ℕ) → a < t.dims → places a ≡ place (on t.order) t.dims a) → Ordered places t.dims
+ordered_back t places h =
+    let o : ℕ → ℕ = on t.order in
+    let d : ℕ = t.dims in
+    record {
+      ranged = λ a l. subst (λ v. v < d) (sym (h a l)) (place_below o d a t.some);
+      found = λ a l.
+          let r = t.ranged a l in
+          met_found places d a (o a) r (h (o a) r ∙ onto_once o d a (place o d (o a)) (onto o d t.some (ordered_in t)) l (place_below o d (o a) t.some) (t.found (o a) r));
+    }
+
+-- an axis is among the entries
 has : List ℕ → ℕ → Bool
 has xs a = list_any (λ y. nat_eq y a) xs
 

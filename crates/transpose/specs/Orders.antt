@@ -5,7 +5,7 @@ use Rattle.std.proofs.lemmas.List.{get_or-take}
 use Rattle.std.proofs.lemmas.Bool.{cond-true, cond-false, eq-eqb, ne_eqb, cases_eq}
 use Rattle.form.specs.Shapes.{on}
 use Rattle.axes.specs.Axes.{place}
-use Rattle.axes.proofs.Numbers.{Onto, onto_once}
+use Rattle.axes.proofs.Numbers.{Onto}
 use Rattle.axes.proofs.Seats.{place_below}
 use Rattle.transpose.specs.Transpose.{Permutes}
 
@@ -15,7 +15,7 @@ pub record Ordered (order : ℕ → ℕ) (r : ℕ) : Type 0 where
   pub found : (a : ℕ) → a < r → order (place order r a) ≡ a
 
 -- an axis that is met is found
-met_found : (order : ℕ → ℕ) (r a k : ℕ) → k < r → order k ≡ a → order (place order r a) ≡ a
+pub met_found : (order : ℕ → ℕ) (r a k : ℕ) → k < r → order k ≡ a → order (place order r a) ≡ a
 met_found order zero a k h e = absurd (omega arith)
 met_found order (suc r) a k h e =
     ⊎_elim
@@ -31,24 +31,16 @@ ordered_by order d p = record {
   found = λ a l. let m = p.met a l in met_found order d a m.0 m.1 m.2;
 }
 
+-- each axis is one of the entries
+pub onto : (order : ℕ → ℕ) (d : ℕ) → 1 ≤ d → Ordered order d → Onto order d
+onto order d s p a l = (place order d a, place_below order d a s, p.found a l)
+
 pub permutes_by : (order : ℕ → ℕ) (d : ℕ) → 1 ≤ d → d ≤ 4 → Ordered order d → Permutes order d
 permutes_by order d s f p = record {
   some = s;
   few = f;
   ranged = p.ranged;
-  met = λ a l. (place order d a, place_below order d a s, p.found a l);
-}
-
-onto : (order : ℕ → ℕ) (d : ℕ) → 1 ≤ d → Ordered order d → Onto order d
-onto order d s p a l = (place order d a, place_below order d a s, p.found a l)
-
--- the places are an order too
-pub ordered_back : (order places : ℕ → ℕ) (d : ℕ) → 1 ≤ d → Ordered order d → ((a : ℕ) → a < d → places a ≡ place order d a) → Ordered places d
-ordered_back order places d s p h = record {
-  ranged = λ a l. subst (λ v. v < d) (sym (h a l)) (place_below order d a s);
-  found = λ a l.
-      let r = p.ranged a l in
-      met_found places d a (order a) r (h (order a) r ∙ onto_once order d a (place order d (order a)) (onto order d s p) l (place_below order d (order a) s) (p.found (order a) r));
+  met = onto order d s p;
 }
 
 -- whether the first d entries of a list are an order depends on them alone

@@ -17,7 +17,7 @@ use Rattle.axes.specs.Axes.{offset, place, Follows}
 use Rattle.axes.proofs.Numbers.{count_same, count_permuted, offset_same, index-offset, offset_below}
 use Rattle.axes.proofs.Seats.{place_below, seat_below, seat_back}
 use Rattle.transpose.specs.Transpose.{formed, with_lengths, new_length, new_lengths, source, target, transposing, Turns, Goes}
-use Rattle.transpose.specs.Orders.{Ordered, ordered_by}
+use Rattle.transpose.specs.Orders.{Ordered, ordered_by, onto}
 
 pub form_facts : (f : Form) → Facts f.lengths f.dims (element_size f)
 form_facts f = facts f.lengths f.dims (element_size f) f.ok
@@ -67,7 +67,7 @@ module _ (order : List ℕ) (f : Form) (p : Ordered (on order) f.dims) where
   home a l = (p.ranged a l, sym (new_is a l))
 
   pub same_count : count new d ≡ count old d
-  same_count = count_same new (λ a. old (o a)) d new_is ∙ count_permuted old o d (λ a l. (place o d a, place_below o d a (form_facts f).some, p.found a l))
+  same_count = count_same new (λ a. old (o a)) d new_is ∙ count_permuted old o d (onto o d (form_facts f).some p)
 
   pub same_volume : volume (new_lengths order f) d (element_size f) ≡ array_bytes f
   same_volume = ap (λ v. v * element_size f) same_count

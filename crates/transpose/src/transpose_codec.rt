@@ -15,6 +15,7 @@ use stage::capability::PartialDecoderCapability;
 use stage::codec::Representation;
 use stage::room::enough;
 use stage::single::SingleCodec;
+use std::array;
 
 // An order of the axes, in the first `dims` entries: axis a of the encoded array is axis order[a] of the decoded one.
 // An array with a count, since the codec is Copy and an ArrayVec is not.
@@ -75,11 +76,13 @@ impl TransposeCodec {
         requires { self.now.dims ≡ form.now.dims }
         ensures { result ≡ new_lengths self.now.order form.now }
     {
-        let mut lengths = [1; 4];
-        for (a, axis) in self.order().iter().enumerate() {
-            lengths[a] = form.lengths[*axis];
-        }
-        lengths
+        array::from_fn(|axis| {
+            if axis < self.dims {
+                form.lengths[self.order[axis]]
+            } else {
+                1
+            }
+        })
     }
 }
 

@@ -1,6 +1,6 @@
 use Rattle.std.proofs.Common.{◌<◌, sym, refl, ◌∙◌, subst, arith}
 use Rattle.std.proofs.lemmas.List.{length-set}
-use Rattle.axes.proofs.Loops.{peeled_full, peeled_more}
+use Rattle.axes.proofs.Loops.{peeled_more}
 use Rattle.transpose.proofs.Gathering.{same_elements, few_axes}
 use Rattle.transpose.proofs.gather.Gathering.index.Goals as goal
 
@@ -9,12 +9,6 @@ loop-a-init c = (
   refl,
   record { within = subst (λ v. c.args.element < v) (sym (same_elements c.args.self.now)) c.requires; done = λ b l m. absurd (omega arith); left = λ b l. refl },
 )
-
-pub nonzero_rem-at : goal.nonzero_rem-at
-nonzero_rem-at c = peeled_full c.loop-a-test.true c.loop-a.invariant.1
-
-pub nonzero_div-rest : goal.nonzero_div-rest
-nonzero_div-rest c = peeled_full c.loop-a-test.true c.loop-a.invariant.1
 
 pub loop-a-preserved : goal.loop-a-preserved
 loop-a-preserved c = (

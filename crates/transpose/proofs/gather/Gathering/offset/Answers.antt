@@ -1,14 +1,14 @@
-use Rattle.std.proofs.Common.{◌≡◌, ◌*◌, ◌+◌, ◌<◌, length, get_or, sym, ap, ◌∙◌, arith, rules}
-use Rattle.std.proofs.lemmas.Slice.Zip.{zip_turn, zip_end}
+use Rattle.std.proofs.Common.{◌*◌, ◌+◌, ◌<◌, get_or, sym, ap, ◌∙◌, arith, rules}
+use Rattle.std.proofs.lemmas.Slice.Zip.{zip_turn}
 use Rattle.std.proofs.lemmas.List.{length_push}
 use Rattle.form.specs.Shapes.{on}
 use Rattle.axes.specs.Axes.{offset}
-use Rattle.transpose.proofs.Gathering.{few_axes, offset_turn}
+use Rattle.transpose.proofs.Gathering.{offset_turn}
 use Rattle.transpose.proofs.gather.Gathering.offset.Goals as goal
 
 pub overflow_mul-n : goal.overflow_mul-n
 overflow_mul-n c =
-    let s = offset_turn c.args.self.now c.args.at c.order.result.now c.loop-length.n (length c.loop-length.yielded) c.in-Some.length.now c.in-Some.axis.now c.requires c.order.ensures.value c.order.ensures.len c.loop-length.invariant
+    let s = offset_turn c.args.self.now c.args.at c.requires c.order.ensures.value c.order.ensures.len c.loop-length.invariant
     (zip_turn _ _ c.loop-length.yielded c.into_iter-length-iterator.result c.loop-length.length-iterator c.next.new.self _ (cc) (cc) c.loop-length.yielded_by _ c.in-Some.is c.next.ensures.steps) in
     let h : c.loop-length.n * c.in-Some.length.now + get_or c.args.at c.in-Some.axis.now 0 < 4096 = s.small in
     let k : c.loop-length.n * c.in-Some.length.now < 4096 = omega arith in
@@ -16,26 +16,19 @@ overflow_mul-n c =
 
 pub overflow_add-n : goal.overflow_add-n
 overflow_add-n c =
-    let s = offset_turn c.args.self.now c.args.at c.order.result.now c.loop-length.n (length c.loop-length.yielded) c.in-Some.length.now c.in-Some.axis.now c.requires c.order.ensures.value c.order.ensures.len c.loop-length.invariant
+    let s = offset_turn c.args.self.now c.args.at c.requires c.order.ensures.value c.order.ensures.len c.loop-length.invariant
     (zip_turn _ _ c.loop-length.yielded c.into_iter-length-iterator.result c.loop-length.length-iterator c.next.new.self _ (cc) (cc) c.loop-length.yielded_by _ c.in-Some.is c.next.ensures.steps) in
     let h : c.loop-length.n * c.in-Some.length.now + get_or c.args.at c.in-Some.axis.now 0 < 4096 = s.small in
     search rules
 
 pub bounds-at-axis : goal.bounds-at-axis
 bounds-at-axis c =
-    let s = offset_turn c.args.self.now c.args.at c.order.result.now c.loop-length.n (length c.loop-length.yielded) c.in-Some.length.now c.in-Some.axis.now c.requires c.order.ensures.value c.order.ensures.len c.loop-length.invariant
+    let s = offset_turn c.args.self.now c.args.at c.requires c.order.ensures.value c.order.ensures.len c.loop-length.invariant
     (zip_turn _ _ c.loop-length.yielded c.into_iter-length-iterator.result c.loop-length.length-iterator c.next.new.self _ (cc) (cc) c.loop-length.yielded_by _ c.in-Some.is c.next.ensures.steps) in
     s.inside
 
 pub loop-length-preserved : goal.loop-length-preserved
 loop-length-preserved c =
-    let s = offset_turn c.args.self.now c.args.at c.order.result.now c.loop-length.n (length c.loop-length.yielded) c.in-Some.length.now c.in-Some.axis.now c.requires c.order.ensures.value c.order.ensures.len c.loop-length.invariant
+    let s = offset_turn c.args.self.now c.args.at c.requires c.order.ensures.value c.order.ensures.len c.loop-length.invariant
     (zip_turn _ _ c.loop-length.yielded c.into_iter-length-iterator.result c.loop-length.length-iterator c.next.new.self _ (cc) (cc) c.loop-length.yielded_by _ c.in-Some.is c.next.ensures.steps) in
     s.more ∙ ap (offset (on c.args.self.now.of.lengths) (λ a. on c.args.at (on c.args.self.now.order.order a))) (sym (length_push c.loop-length.yielded _))
-
-pub returns : goal.returns
-returns c =
-    let g = c.args.self.now in
-    let t = zip_end g.of.lengths c.order.result.now c.loop-length.yielded c.into_iter-length-iterator.result c.loop-length.length-iterator c.next.new.self _ (cc) (cc) c.loop-length.yielded_by c.in-None.is c.next.ensures.steps in
-    let e : length c.loop-length.yielded ≡ g.of.dims = let d = g.dims in let f = few_axes g in omega (arith, c.iter.ensures.len) in
-    c.loop-length.invariant ∙ ap (offset (on g.of.lengths) (λ a. on c.args.at (on g.order.order a))) e

@@ -75,7 +75,7 @@ impl<C: SingleCodec> Codec for Single<C> {
         scratch: &mut [u8],
     ) -> Result<usize, Fault> {
         let bytes = self.size(form, from)?;
-        if (from > to) | (to > 1) {
+        if from > to || to > 1 {
             return Err(Fault::Length);
         }
         room(buf, scratch)?;

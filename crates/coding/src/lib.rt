@@ -1,7 +1,7 @@
 // The calls of any codec from an input into an output, by way of two work buffers.
 #![tactic(auto)]
 
-ghost use Rattle.std.specs.Prelude.{◌≡◌, ◌≤◌, ◌++◌, length, take, drop};
+ghost use Rattle.std.specs.Prelude.{◌≡◌, length};
 ghost use Rattle.form.specs.Refusals.{told};
 ghost use Rattle.stage.specs.Stage.{Laws};
 ghost use Rattle.stage.specs.Calls.{encode_answer, undo_answer, written};
@@ -14,15 +14,6 @@ use stage::room::room;
 pub fn laws_hold<C: Codec>(codec: &C)
     ensures { Laws C.Decoded.Representation.weight C.Encoded.Representation.weight (C.Codec.meaning codec.now) }
 {}
-
-// Copies the first n bytes over the front of another slice.
-fn put(source: &[u8], target: &mut [u8], n: usize)
-    requires there { n ≤ length source.now }
-    requires room { n ≤ length target.old }
-    ensures { target.new ≡ take n source.now ++ drop n target.old }
-{
-    target[0..n].copy_from_slice(&source[0..n]);
-}
 
 // Encodes the input, an array or bytes of the form, into the front of the output, and answers how many bytes that are.
 // What the work buffers hold afterwards is not said.
@@ -46,9 +37,9 @@ pub fn encode<C: Codec>(
         return Err(Fault::BufferShort);
     }
     room(work, scratch)?;
-    put(input, work, input.len());
+    work[..input.len()].copy_from_slice(input);
     codec.encode(form, work, scratch)?;
-    put(work, output, count);
+    output[..count].copy_from_slice(&work[..count]);
     Ok(count)
 }
 
@@ -70,15 +61,15 @@ pub fn undo<C: Codec>(
 {
     let before = codec.size(form, from)?;
     let count = codec.size(form, to)?;
-    if (from > to) | (input.len() != before) {
+    if from > to || input.len() != before {
         return Err(Fault::Length);
     }
     if count > output.len() {
         return Err(Fault::BufferShort);
     }
     room(work, scratch)?;
-    put(input, work, input.len());
+    work[..input.len()].copy_from_slice(input);
     let undone = codec.undo(form, from, to, checks, work, scratch)?;
-    put(work, output, undone);
+    output[..undone].copy_from_slice(&work[..undone]);
     Ok(undone)
 }

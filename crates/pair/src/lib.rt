@@ -8,31 +8,24 @@ ghost use Rattle.pair.specs.Compose.{after, shifted, lifted};
 ghost use Rattle.pair.specs.Composition.{after_laws};
 ghost use Rattle.pair.specs.ArrayPairs.{after_arrays};
 
-use form::array_form::Form;
 use form::fault::Fault;
 use stage::array_to_array::ArrayToArrayCodec;
 use stage::capability::PartialDecoderCapability;
 use stage::codec::{Codec, Representation};
-use std::marker::PhantomData;
 
-// The outer codec encodes what the inner encoded; M is the form between the two.
+// The outer codec encodes what the inner encoded.
 #[derive(Drop)]
-pub struct Pair<O, I, M> {
+pub struct Pair<O, I> {
     outer: O,
     inner: I,
-    middle: PhantomData<M>,
 }
 
-impl<O, I, M> Pair<O, I, M> {
-    pub fn new(outer: O, inner: I) -> Pair<O, I, M>
+impl<O, I> Pair<O, I> {
+    pub fn new(outer: O, inner: I) -> Pair<O, I>
         ensures outer { result.outer ≡ outer }
         ensures inner { result.inner ≡ inner }
     {
-        Pair {
-            outer,
-            inner,
-            middle: PhantomData,
-        }
+        Pair { outer, inner }
     }
 }
 
@@ -63,11 +56,11 @@ fn shift(r: Result<usize, Fault>, by: usize) -> Result<usize, Fault>
 }
 
 // The form between the two halves, if neither refuses.
-fn middle_form<M: Representation + Drop, I: Codec<Encoded = M>, O: Codec<Decoded = M>>(
+fn middle_form<O: Codec<Decoded = I::Encoded>, I: Codec>(
     outer: &O,
     inner: &I,
     form: &I::Decoded,
-) -> Result<M, Fault>
+) -> Result<I::Encoded, Fault>
     ensures { told result ≡ unless ((after (O.Codec.meaning outer.now) (I.Codec.meaning inner.now)).refusal form.now) (Ok ((I.Codec.meaning inner.now).coded form.now)) }
 {
     let middle = inner.coded(form)?;
@@ -75,8 +68,7 @@ fn middle_form<M: Representation + Drop, I: Codec<Encoded = M>, O: Codec<Decoded
     Ok(middle)
 }
 
-impl<M: Representation + Drop, I: Codec<Encoded = M>, O: Codec<Decoded = M>> Codec
-    for Pair<O, I, M> {
+impl<O: Codec<Decoded = I::Encoded>, I: Codec> Codec for Pair<O, I> {
     type Decoded = I::Decoded;
 
     type Encoded = O::Encoded;
@@ -84,7 +76,7 @@ impl<M: Representation + Drop, I: Codec<Encoded = M>, O: Codec<Decoded = M>> Cod
     ghost meaning = { λ s. after (O.Codec.meaning s.outer) (I.Codec.meaning s.inner) };
 
     ghost lawful = { λ s.
-        after_laws I.Decoded.Representation.weight M.Representation.weight O.Encoded.Representation.weight
+        after_laws I.Decoded.Representation.weight I.Encoded.Representation.weight O.Encoded.Representation.weight
         (O.Codec.meaning s.outer) (I.Codec.meaning s.inner)
         (O.Codec.lawful s.outer) (I.Codec.lawful s.inner) };
 
@@ -154,7 +146,7 @@ impl<M: Representation + Drop, I: Codec<Encoded = M>, O: Codec<Decoded = M>> Cod
 }
 
 // A pair of codecs from arrays to arrays is one.
-impl<O: ArrayToArrayCodec, I: ArrayToArrayCodec> ArrayToArrayCodec for Pair<O, I, Form> {
+impl<O: ArrayToArrayCodec, I: ArrayToArrayCodec> ArrayToArrayCodec for Pair<O, I> {
     ghost keeps = { λ s.
         after_arrays (O.Codec.meaning s.outer) (I.Codec.meaning s.inner)
         (O.ArrayToArrayCodec.keeps s.outer) (I.ArrayToArrayCodec.keeps s.inner) };

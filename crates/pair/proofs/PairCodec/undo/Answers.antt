@@ -9,7 +9,7 @@ use Rattle.pair.proofs.PairCodec.undo.Goals as goal
 use Rattle.pair.proofs.PairCodec.undo.Goals.{In_ok-middle, else-from-seam, then-from-seam+in_ok-undo}
 
 -- both halves take the form, as every goal here has it
-halves : (g : Over) (c : In_ok-middle g) → Halves g.I.Decoded.Representation.weight g.M.Representation.weight g.O.Encoded.Representation.weight (g.O.Codec.meaning c.args.self.now.outer) (g.I.Codec.meaning c.args.self.now.inner) c.args.form.now c.in_ok-middle.middle
+halves : (g : Over) (c : In_ok-middle g) → Halves g.I.Decoded.Representation.weight g.I.Encoded.Representation.weight g.O.Encoded.Representation.weight (g.O.Codec.meaning c.args.self.now.outer) (g.I.Codec.meaning c.args.self.now.inner) c.args.form.now c.in_ok-middle.middle
 halves g c = record {
   outer_laws = g.met.O.Codec.lawful c.args.self.now.outer;
   inner_laws = g.met.I.Codec.lawful c.args.self.now.inner;
@@ -56,7 +56,7 @@ returns g c =
           (length c.args.scratch.now) (length c.if-from-seam.scratch) c.last_place-seam.result (omega arith) (omega arith) (omega arith) (omega arith)
           c.shift.result w.undo-then-from-seam.result c.undo-undone.result w.in_ok-undo.field-0 w.in_ok-undo.was
           c.if-from-seam.auto.buf c.if-from-seam.auto.scratch c.shift.ensures
-          (subst (λ v. Undone g.M.Representation.weight (g.O.Codec.meaning c.args.self.now.outer) c.in_ok-middle.middle c.args.from c.last_place-seam.result c.args.checks c.args.buf.now v (length c.args.scratch.now) w.undo-then-from-seam.result) (sym w.buf-is) w.undo-then-from-seam.ensures)
+          (subst (λ v. Undone g.I.Encoded.Representation.weight (g.O.Codec.meaning c.args.self.now.outer) c.in_ok-middle.middle c.args.from c.last_place-seam.result c.args.checks c.args.buf.now v (length c.args.scratch.now) w.undo-then-from-seam.result) (sym w.buf-is) w.undo-then-from-seam.ensures)
           (moved g.I.Decoded.Representation.weight (g.I.Codec.meaning c.args.self.now.inner) c.args.form.now
           0 c.saturating_sub-start.result (c.args.to - c.last_place-seam.result) c.args.checks
           c.if-from-seam.buf c.if-from-seam.buf c.undo-undone.new.buf (length c.if-from-seam.scratch) (length c.if-from-seam.scratch) c.undo-undone.result

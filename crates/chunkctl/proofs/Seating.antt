@@ -10,15 +10,6 @@ use Rattle.byte_codecs.specs.declared.byte_codec.ByteCodec.TheVariants.{Empty}
 use Rattle.chunkctl.specs.declared.command.StageName.{StageName}
 use Rattle.chunkctl.specs.Seats.{Named, AllNamed, add_refusal, names_refusal, Seated}
 
--- four seats are these four
-pub four : (xs : List ByteCodec) (d : ByteCodec) → length xs ≡ 4 → get_or xs 0 d ∷ (get_or xs 1 d ∷ (get_or xs 2 d ∷ (get_or xs 3 d ∷ []))) ≡ xs
-four [] d h = absurd (omega arith)
-four (a ∷ []) d h = absurd (omega arith)
-four (a ∷ (b ∷ [])) d h = absurd (omega arith)
-four (a ∷ (b ∷ (c ∷ []))) d h = absurd (omega arith)
-four (a ∷ (b ∷ (c ∷ (e ∷ [])))) d h = refl
-four (a ∷ (b ∷ (c ∷ (e ∷ (f ∷ xs))))) d h = absurd (omega arith)
-
 named_push : (ns : List StageName) (cs : List ByteCodec) (n : StageName) (c : ByteCodec) → AllNamed ns cs → Named n c → AllNamed (ns ++ (n ∷ [])) (cs ++ (c ∷ []))
 named_push [] [] n c h k = (k, tt)
 named_push [] (d ∷ cs) n c h k = absurd h
@@ -47,9 +38,6 @@ seat_more names i d seats c h k s m =
       subst (λ ns. AllNamed ns (s.0 ++ (c ∷ []))) (sym more) (named_push (take i names) s.0 (get_or names i d) c s.1 m),
       ap (λ xs. set xs i c) place ∙ (seat_set s.0 i c size k ∙ ap (λ n. (s.0 ++ (c ∷ [])) ++ replicate (4 - n) Empty) (sym next)),
     )
-
-pub seat_none : (names : List StageName) → Seated (take 0 names) (replicate 4 Empty)
-seat_none names = ([], tt, refl)
 
 pub seat_all : (names : List StageName) (i : ℕ) (seats : List ByteCodec) → length names ≤ i → Seated (take i names) seats → Seated names seats
 seat_all names i seats h s = subst (λ ns. Seated ns seats) (take_all i names h) s

@@ -87,7 +87,8 @@ fn front(bytes: &[u8], n: usize) -> &[u8]
     bytes.get(..n).unwrap_or(bytes)
 }
 
-// A blank and the value of an answer that has one; `output` is the output buffer.
+// A blank and the value of an answer that has one; `output` is the output buffer. The line is pushed and not one Display:
+// through a formatter the digits of a large buffer take eight times as long.
 fn push_value(
     heap: Global,
     out: &mut Vec<u8>,

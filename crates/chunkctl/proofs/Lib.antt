@@ -1,3 +1,2 @@
 mod Called
-mod Joined
 mod Seating

@@ -10,15 +10,6 @@ use Rattle.byte_codecs.specs.declared.byte_codec.ByteCodec.TheVariants.{Empty}
 use Rattle.chunkctl.specs.declared.command.StageName.{StageName}
 use Rattle.chunkctl.specs.Seats.{Named, AllNamed, add_refusal, names_refusal, Seated}
 
--- four seats are these four
-pub four : (xs : List ByteCodec) (d : ByteCodec) → length xs ≡ 4 → get_or xs 0 d ∷ (get_or xs 1 d ∷ (get_or xs 2 d ∷ (get_or xs 3 d ∷ []))) ≡ xs
-four [] d h = absurd (omega arith)
-four (a ∷ []) d h = absurd (omega arith)
-four (a ∷ (b ∷ [])) d h = absurd (omega arith)
-four (a ∷ (b ∷ (c ∷ []))) d h = absurd (omega arith)
-four (a ∷ (b ∷ (c ∷ (e ∷ [])))) d h = refl
-four (a ∷ (b ∷ (c ∷ (e ∷ (f ∷ xs))))) d h = absurd (omega arith)
-
 named_push : (ns : List StageName) (cs : List ByteCodec) (n : StageName) (c : ByteCodec) → AllNamed ns cs → Named n c → AllNamed (ns ++ (n ∷ [])) (cs ++ (c ∷ []))
 named_push [] [] n c h k = (k, tt)
 named_push [] (d ∷ cs) n c h k = absurd h
@@ -47,9 +38,6 @@ seat_more names i d seats c h k s m =
       subst (λ ns. AllNamed ns (s.0 ++ (c ∷ []))) (sym more) (named_push (take i names) s.0 (get_or names i d) c s.1 m),
       ap (λ xs. set xs i c) place ∙ (seat_set s.0 i c size k ∙ ap (λ n. (s.0 ++ (c ∷ [])) ++ replicate (4 - n) Empty) (sym next)),
     )
-
-pub seat_none : (names : List StageName) → Seated (take 0 names) (replicate 4 Empty)
-seat_none names = ([], tt, refl)
 
 pub seat_all : (names : List StageName) (i : ℕ) (seats : List ByteCodec) → length names ≤ i → Seated (take i names) seats → Seated names seats
 seat_all names i seats h s = subst (λ ns. Seated ns seats) (take_all i names h) s
@@ -82,19 +70,14 @@ pub names_all : {Y : Type 0} (names : List StageName) (i : ℕ) (Q : Y → Type 
 names_all names i Q y h e q = subst (λ o. Answers o Q (Ok y)) (sym (at_drop_all (names_refusal i) names i h) ∙ e) q
 
 -- one turn of the loop
-pub add_step : (names : List StageName) (i taken taken' : ℕ) (d name : StageName) (seats seats' : List ByteCodec) → i < length names → taken ≡ i → name ≡ get_or names i d → Answers (add_refusal taken name) (λ (_ : Unit {0}). (taken' ≡ taken + 1) × ((c : ByteCodec) × Named name c × (seats' ≡ set seats taken c))) (Ok tt) → Seated (take i names) seats → names_refusal i (drop i names) ≡ names_refusal 0 names → Seated (take (i + 1) names) seats' × (taken' ≡ i + 1) × (names_refusal (i + 1) (drop (i + 1) names) ≡ names_refusal 0 names)
-add_step names i taken taken' d name seats seats' h et en a s e =
-    let P : Unit {0} → Type 0 = λ _. (taken' ≡ taken + 1) × ((c : ByteCodec) × Named name c × (seats' ≡ set seats taken c)) in
-    let b : Answers (add_refusal i (get_or names i d)) P (Ok tt) = subst (λ m. Answers (add_refusal i m) P (Ok tt)) en (subst (λ k. Answers (add_refusal k name) P (Ok tt)) et a) in
-    let m = names_more names i d P tt h b e in
-    let c = m.1.1.0 in
-    let named : Named (get_or names i d) c = subst (λ n. Named n c) en m.1.1.1 in
-    let seated = seat_more names i d seats c h m.0 s named in
-    let same : set seats i c ≡ seats' = sym (m.1.1.2 ∙ ap (λ k. set seats k c) et) in
-    (subst (Seated (take (i + 1) names)) same seated, m.1.0 ∙ ap (λ k. k + 1) et, m.2)
+pub add_step : (names : List StageName) (i : ℕ) (d name : StageName) (seats seats' : List ByteCodec) → i < length names → name ≡ get_or names i d → Answers (add_refusal i name) (λ (_ : Unit {0}). (c : ByteCodec) × Named name c × (seats' ≡ set seats i c)) (Ok tt) → Seated (take i names) seats → names_refusal i (drop i names) ≡ names_refusal 0 names → Seated (take (i + 1) names) seats' × (names_refusal (i + 1) (drop (i + 1) names) ≡ names_refusal 0 names)
+add_step names i d name seats seats' h en a s e =
+    let P : StageName → Unit {0} → Type 0 = λ n _. (c : ByteCodec) × Named n c × (seats' ≡ set seats i c) in
+    let b : Answers (add_refusal i (get_or names i d)) (P (get_or names i d)) (Ok tt) = subst (λ n. Answers (add_refusal i n) (P n) (Ok tt)) en a in
+    let m = names_more names i d (P (get_or names i d)) tt h b e in
+    (subst (Seated (take (i + 1) names)) (sym m.1.2) (seat_more names i d seats m.1.0 h m.0 s m.1.1), m.2)
 
-pub add_stop : {Y : Type 0} (names : List StageName) (i taken : ℕ) (d name : StageName) (P : Unit {0} → Type 0) (Q : Y → Type 0) (f : Fault) (r : Result Y Fault) → i < length names → taken ≡ i → name ≡ get_or names i d → Answers (add_refusal taken name) P (Err f) → names_refusal i (drop i names) ≡ names_refusal 0 names → IsErrAnd r (λ g. g ≡ f) → Answers (names_refusal 0 names) Q r
-add_stop names i taken d name P Q f (Ok y) h et en a e w = absurd w
-add_stop names i taken d name P Q f (Err g) h et en a e w =
-    let b : Answers (add_refusal i (get_or names i d)) P (Err f) = subst (λ m. Answers (add_refusal i m) P (Err f)) en (subst (λ k. Answers (add_refusal k name) P (Err f)) et a) in
-    subst (λ x. Answers (names_refusal 0 names) Q (Err x)) (sym w) (names_stop names i d P Q f h b e)
+pub add_stop : {Y : Type 0} (names : List StageName) (i : ℕ) (d name : StageName) (P : Unit {0} → Type 0) (Q : Y → Type 0) (f : Fault) (r : Result Y Fault) → i < length names → name ≡ get_or names i d → Answers (add_refusal i name) P (Err f) → names_refusal i (drop i names) ≡ names_refusal 0 names → IsErrAnd r (λ g. g ≡ f) → Answers (names_refusal 0 names) Q r
+add_stop names i d name P Q f (Ok y) h en a e w = absurd w
+add_stop names i d name P Q f (Err g) h en a e w =
+    subst (λ x. Answers (names_refusal 0 names) Q (Err x)) (sym w) (names_stop names i d P Q f h (subst (λ m. Answers (add_refusal i m) P (Err f)) en a) e)

@@ -1,5 +1,5 @@
 -- How answers are written.
-use Rattle.std.specs.Prelude.{ℕ, ◌/◌, ◌%◌, Bool, cond, List, [], ◌∷◌, ◌++◌, take, Some, None, Ok, Err, vec_items, codes, decimal, Option, Result}
+use Rattle.std.specs.Prelude.{ℕ, ◌/◌, ◌%◌, Bool, cond, List, [], ◌∷◌, ◌++◌, take, Some, None, Ok, Err, vec_items, codes, decimal, unwrap_or, Option, Result}
 use Rattle.form.specs.declared.fault.Fault.{Fault}
 use Rattle.form.specs.Refusals.{refusal, value_of}
 use Rattle.stage.specs.declared.capability.PartialDecoderCapability.{PartialDecoderCapability}
@@ -8,17 +8,26 @@ use Rattle.chunkctl.specs.declared.trouble.Complaint.{Complaint}
 use Rattle.chunkctl.specs.declared.trouble.Complaint.TheVariants.{NoMemory, LineTooLong, UnknownCommand, WordCount, Number, Hex, Shape, DataType, Stage, Switch, BufferTooLarge, NoStages}
 use Rattle.chunkctl.specs.declared.trouble.Trouble.{Trouble}
 use Rattle.chunkctl.specs.declared.trouble.Trouble.TheVariants.{Refused, Error}
+use Rattle.chunkctl.specs.declared.answer.Single.{Single}
 use Rattle.chunkctl.specs.declared.answer.Answer.{Answer}
 use Rattle.chunkctl.specs.declared.answer.Answer.TheVariants.{Done, Commands, Form, Output, Bytes, Singles, Lengths, Sum}
 
--- numbers, each after a comma
-abbrev pub more_numbers : List ℕ → List ℕ
-more_numbers [] = []
-more_numbers (n ∷ ns) = codes "," ++ (decimal n ++ more_numbers ns)
+-- the text that a value prints
+abbrev pub shown : {T : Type 0} → (T → Option (List ℕ)) → T → List ℕ
+shown output x = unwrap_or (output x) []
+
+-- values, each after a comma
+abbrev pub more_text : {T : Type 0} → (T → List ℕ) → List T → List ℕ
+more_text one [] = []
+more_text one (x ∷ xs) = codes "," ++ (one x ++ more_text one xs)
+
+-- values joined by commas, or - for none
+abbrev pub list_text : {T : Type 0} → (T → List ℕ) → List T → List ℕ
+list_text one [] = codes "-"
+list_text one (x ∷ xs) = one x ++ more_text one xs
 
 abbrev pub numbers_text : List ℕ → List ℕ
-numbers_text [] = codes "-"
-numbers_text (n ∷ ns) = decimal n ++ more_numbers ns
+numbers_text ns = list_text decimal ns
 
 abbrev pub yes_no : Bool → List ℕ
 yes_no b = cond b (codes "yes") (codes "no")
@@ -26,13 +35,8 @@ yes_no b = cond b (codes "yes") (codes "no")
 abbrev pub single_text : PartialDecoderCapability → List ℕ
 single_text s = yes_no s.partial_read ++ (codes "/" ++ yes_no s.partial_decode)
 
-abbrev pub more_singles : List PartialDecoderCapability → List ℕ
-more_singles [] = []
-more_singles (s ∷ ss) = codes "," ++ (single_text s ++ more_singles ss)
-
-abbrev pub singles_text : List PartialDecoderCapability → List ℕ
-singles_text [] = codes "-"
-singles_text (s ∷ ss) = single_text s ++ more_singles ss
+abbrev pub singles_text : List Single → List ℕ
+singles_text ss = list_text (λ s. single_text s.0) ss
 
 -- the single that a failed test names
 abbrev pub at_text : Option ℕ → List ℕ

@@ -1,10 +1,11 @@
 // What a command answers, and how it is written.
-ghost use Rattle.std.specs.Prelude.{◌≡◌, cond, ◌++◌, is_ok, OnOk};
-ghost use Rattle.chunkctl.specs.Shown.{numbers_text, single_text, singles_text, yes_no, trouble_text, value_text, outcome_text, line_text};
+ghost use Rattle.std.specs.Prelude.{◌≡◌, ◌++◌, take, IsSome, Some, OnOk};
+ghost use Rattle.chunkctl.specs.Shown.{shown, list_text, single_text, yes_no, value_text, outcome_text, line_text};
 
 use crate::trouble::Trouble;
 use stage::capability::PartialDecoderCapability;
 use std::alloc::{AllocError, Global};
+use std::fmt;
 use text::hex::push_hex;
 use text::number::push_number;
 
@@ -17,9 +18,29 @@ pub enum Answer {
     // so many bytes at the front of the output buffer
     Output(usize),
     Bytes(Vec<u8>),
-    Singles(Vec<PartialDecoderCapability>),
+    Singles(Vec<Single>),
     Lengths(Vec<usize>),
     Sum(u32),
+}
+
+// What a single can read and decode.
+#[derive(Clone, Copy)]
+pub struct Single(pub PartialDecoderCapability);
+
+fn yes_no(yes: bool) -> &'static str
+    ensures { result.now ≡ yes_no yes }
+{
+    if yes { "yes" } else { "no" }
+}
+
+impl fmt::Display for Single {
+    ghost output = { λ s. Some (single_text s.0) };
+
+    fn fmt<W: fmt::Write>(&self, f: &mut fmt::Formatter<W>) -> fmt::Result {
+        let read = yes_no(self.0.partial_read);
+        let decode = yes_no(self.0.partial_decode);
+        write!(f, "{read}/{decode}")
+    }
 }
 
 const COMMANDS: &str = " help out work peek form stages singles lengths encode undo sum data";
@@ -30,59 +51,44 @@ fn push_text(out: &mut Vec<u8>, text: &str) -> Result<(), AllocError>
     out.extend_from_slice(text.as_bytes())
 }
 
-// Numbers joined by commas.
-fn push_numbers(heap: Global, out: &mut Vec<u8>, numbers: &[usize]) -> Result<(), AllocError>
-    ensures { OnOk result (out.new.items ≡ out.old.items ++ numbers_text numbers.now) }
+// What a value prints.
+fn push_shown<T: fmt::Display>(heap: Global, out: &mut Vec<u8>, value: &T) -> Result<(), AllocError>
+    requires { IsSome (T.output value.now) }
+    ensures { OnOk result (out.new.items ≡ out.old.items ++ shown T.output value.now) }
 {
-    let [first, rest @ ..] = numbers else {
-        return push_text(out, "-");
-    };
-    push_number(heap, out, *first as u64)?;
-    for n in rest {
-        push_text(out, ",")?;
-        push_number(heap, out, *n as u64)?;
-    }
-    Ok(())
-}
-
-fn yes_no(yes: bool) -> &'static str
-    ensures { result.now ≡ yes_no yes }
-{
-    if yes { "yes" } else { "no" }
-}
-
-// What a single can read and decode.
-fn push_single(out: &mut Vec<u8>, single: PartialDecoderCapability) -> Result<(), AllocError>
-    ensures { OnOk result (out.new.items ≡ out.old.items ++ single_text single) }
-{
-    push_text(out, yes_no(single.partial_read))?;
-    push_text(out, "/")?;
-    push_text(out, yes_no(single.partial_decode))
-}
-
-// The same of singles, joined by commas.
-fn push_singles(out: &mut Vec<u8>, singles: &[PartialDecoderCapability]) -> Result<(), AllocError>
-    ensures { OnOk result (out.new.items ≡ out.old.items ++ singles_text singles.now) }
-{
-    let [first, rest @ ..] = singles else {
-        return push_text(out, "-");
-    };
-    push_single(out, *first)?;
-    for single in rest {
-        push_text(out, ",")?;
-        push_single(out, *single)?;
-    }
-    Ok(())
-}
-
-fn push_trouble(heap: Global, out: &mut Vec<u8>, trouble: Trouble) -> Result<(), AllocError>
-    ensures { OnOk result (out.new.items ≡ out.old.items ++ trouble_text trouble) }
-{
-    let text = trouble.to_string(heap)?;
+    let text = value.to_string(heap)?;
     push_text(out, text.as_str())
 }
 
-// A blank and the value of an answer that has one; `output` is the output buffer.
+// Values joined by commas, or - for none.
+fn push_list<T: fmt::Display>(
+    heap: Global,
+    out: &mut Vec<u8>,
+    values: &[T],
+) -> Result<(), AllocError>
+    requires { (x : T) → IsSome (T.output x) }
+    ensures { OnOk result (out.new.items ≡ out.old.items ++ list_text (shown T.output) values.now) }
+{
+    let [first, rest @ ..] = values else {
+        return push_text(out, "-");
+    };
+    push_shown(heap, out, first)?;
+    for value in rest {
+        push_text(out, ",")?;
+        push_shown(heap, out, value)?;
+    }
+    Ok(())
+}
+
+// The first n bytes, or all where there are fewer.
+fn front(bytes: &[u8], n: usize) -> &[u8]
+    ensures { result.now ≡ take n bytes.now }
+{
+    bytes.get(..n).unwrap_or(bytes)
+}
+
+// A blank and the value of an answer that has one; `output` is the output buffer. The line is pushed and not one Display:
+// through a formatter the digits of a large buffer take eight times as long.
 fn push_value(
     heap: Global,
     out: &mut Vec<u8>,
@@ -102,7 +108,7 @@ fn push_value(
         }
         Answer::Output(n) => {
             push_text(out, " ")?;
-            push_hex(out, &output[0..output.len().min(*n)])
+            push_hex(out, front(output, *n))
         }
         Answer::Bytes(bytes) => {
             push_text(out, " ")?;
@@ -110,11 +116,11 @@ fn push_value(
         }
         Answer::Singles(singles) => {
             push_text(out, " ")?;
-            push_singles(out, singles.as_slice())
+            push_list(heap, out, singles.as_slice())
         }
         Answer::Lengths(lengths) => {
             push_text(out, " ")?;
-            push_numbers(heap, out, lengths.as_slice())
+            push_list(heap, out, lengths.as_slice())
         }
         Answer::Sum(sum) => {
             push_text(out, " 0x")?;
@@ -137,7 +143,7 @@ fn push_outcome(
             push_text(out, "ok")?;
             push_value(heap, out, answer, output)
         }
-        Err(trouble) => push_trouble(heap, out, *trouble),
+        Err(trouble) => push_shown(heap, out, trouble),
     }
 }
 

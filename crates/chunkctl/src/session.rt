@@ -2,7 +2,7 @@
 ghost use Rattle.std.specs.Prelude.{◌≡◌, ◌<◌, false, ◌&&◌, length, replicate, is_ok, Some, None, Ok, Err, vec_len, vec_items, IfOk, OnErr};
 ghost use Rattle.chunkctl.specs.Carried.{IsError, FormSet, StagesSet, Encodes, Undoes, BeforeSum, Ran, sets_form, sets_stages};
 
-use crate::answer::Answer;
+use crate::answer::{Answer, Single};
 use crate::command::{Command, StageName, Undo};
 use crate::draft::{Stages, built};
 use crate::trouble::{Complaint, Trouble};
@@ -90,6 +90,7 @@ fn singles(heap: Global, stages: &Option<Stages>) -> Result<Answer, Trouble> {
     let stages = chosen(stages)?;
     let found = (0..4)
         .map_while(|single| stages.capability(single).ok())
+        .map(Single)
         .collect(heap)?;
     Ok(Answer::Singles(found))
 }

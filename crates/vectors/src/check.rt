@@ -24,10 +24,7 @@ fn undo_all(
 
 // Whether a call left just these bytes in the output.
 fn left(buffers: &Buffers, count: Result<usize, Fault>, bytes: &[u8]) -> bool {
-    match count {
-        Ok(n) => n <= buffers.output.len() && &buffers.output.as_slice()[0..n] == bytes,
-        Err(_) => false,
-    }
+    matches!(count, Ok(n) if buffers.output.as_slice().get(..n) == Some(bytes))
 }
 
 // The stages of a kind, and how many singles they have.

@@ -5,13 +5,13 @@ use Rattle.chunkctl.proofs.draft.built.Goals as goal
 
 pub returns-in_err-add : goal.returns-in_err-add
 returns-in_err-add c =
-    add_stop c.args.names.now c.loop-name.name-index _ _ _ _ _ c.in_err-add.field-0.0 c.from_residual.result c.loop-name-test.true c.loop-name.invariant.1 refl c.in_err-add.ensures.answer c.loop-name.invariant.2 c.from_residual.ensures.1
+    add_stop c.args.names.now c.loop-at.at _ _ _ _ c.in_err-add.field-0.0 c.from_residual.result c.loop-at-test.true refl c.in_err-add.ensures c.loop-at.invariant.1 c.from_residual.ensures.1
 
-pub loop-name-preserved : goal.loop-name-preserved
-loop-name-preserved c =
-    add_step c.args.names.now c.loop-name.name-index _ _ _ _ _ _ c.loop-name-test.true c.loop-name.invariant.1 refl c.in_ok-add.ensures.answer c.loop-name.invariant.0 c.loop-name.invariant.2
+pub loop-at-preserved : goal.loop-at-preserved
+loop-at-preserved c =
+    add_step c.args.names.now c.loop-at.at _ _ _ _ c.loop-at-test.true refl c.in_ok-add.ensures c.loop-at.invariant.0 c.loop-at.invariant.1
 
 pub returns : goal.returns
 returns c =
-    names_all c.args.names.now c.loop-name.name-index _ c.stages.result c.loop-name-test.false c.loop-name.invariant.2
-    (subst (Seated c.args.names.now) (sym c.stages.ensures) (seat_all c.args.names.now c.loop-name.name-index c.loop-name.draft.seats c.loop-name-test.false c.loop-name.invariant.0))
+    names_all c.args.names.now c.loop-at.at _ c.seated.result c.loop-at-test.false c.loop-at.invariant.1
+    (subst (Seated c.args.names.now) (sym c.seated.ensures) (seat_all c.args.names.now c.loop-at.at c.loop-at.seats c.loop-at-test.false c.loop-at.invariant.0))

@@ -5,8 +5,8 @@ use Rattle.std.proofs.lemmas.Bool.Decides.{nat_tests}
 use Rattle.form.specs.declared.fault.Fault.{Fault}
 use Rattle.form.specs.Answers.{Answers}
 use Rattle.pair.specs.Compose.{or_else}
-use Rattle.byte_codecs.specs.declared.byte_codec.ByteCodec.{ByteCodec}
-use Rattle.byte_codecs.specs.declared.byte_codec.ByteCodec.TheVariants.{Empty}
+use Rattle.base_codecs.specs.Chosen.{empty_choice}
+use Rattle.byte_codecs.specs.Chosen.{ByteCodec}
 use Rattle.chunkctl.specs.declared.command.StageName.{StageName}
 use Rattle.chunkctl.specs.Seats.{Named, AllNamed, add_refusal, names_refusal, Seated}
 
@@ -22,21 +22,21 @@ named_length [] (d ∷ cs) h = absurd h
 named_length (m ∷ ns) [] h = absurd h
 named_length (m ∷ ns) (d ∷ cs) h = ap suc (named_length ns cs h.1)
 
-seat_set : (cs : List ByteCodec) (n : ℕ) (c : ByteCodec) → length cs ≡ n → n < 4 → set (cs ++ replicate (4 - n) Empty) n c ≡ (cs ++ (c ∷ [])) ++ replicate (4 - (n + 1)) Empty
+seat_set : (cs : List ByteCodec) (n : ℕ) (c : ByteCodec) → length cs ≡ n → n < 4 → set (cs ++ replicate (4 - n) empty_choice) n c ≡ (cs ++ (c ∷ [])) ++ replicate (4 - (n + 1)) empty_choice
 seat_set cs n c e h =
     let left : 4 - n ≡ suc (4 - (n + 1)) = omega arith in
-    ap (λ k. set (cs ++ replicate k Empty) n c) left ∙ (set_at cs Empty (replicate (4 - (n + 1)) Empty) c n e ∙ sym (append_assoc cs (c ∷ []) (replicate (4 - (n + 1)) Empty)))
+    ap (λ k. set (cs ++ replicate k empty_choice) n c) left ∙ (set_at cs empty_choice (replicate (4 - (n + 1)) empty_choice) c n e ∙ sym (append_assoc cs (c ∷ []) (replicate (4 - (n + 1)) empty_choice)))
 
 pub seat_more : (names : List StageName) (i : ℕ) (d : StageName) (seats : List ByteCodec) (c : ByteCodec) → i < length names → i < 4 → Seated (take i names) seats → Named (get_or names i d) c → Seated (take (i + 1) names) (set seats i c)
 seat_more names i d seats c h k s m =
     let long : length (take i names) ≡ i = length-take-le i names (omega arith) in
     let more = take_more names i d h in
     let size : length s.0 ≡ i = named_length (take i names) s.0 s.1 ∙ long in
-    let place : seats ≡ s.0 ++ replicate (4 - i) Empty = s.2 ∙ ap (λ n. s.0 ++ replicate (4 - n) Empty) long in
+    let place : seats ≡ s.0 ++ replicate (4 - i) empty_choice = s.2 ∙ ap (λ n. s.0 ++ replicate (4 - n) empty_choice) long in
     let next : length (take (i + 1) names) ≡ i + 1 = length-take-le (i + 1) names (omega arith) in (
       s.0 ++ (c ∷ []),
       subst (λ ns. AllNamed ns (s.0 ++ (c ∷ []))) (sym more) (named_push (take i names) s.0 (get_or names i d) c s.1 m),
-      ap (λ xs. set xs i c) place ∙ (seat_set s.0 i c size k ∙ ap (λ n. (s.0 ++ (c ∷ [])) ++ replicate (4 - n) Empty) (sym next)),
+      ap (λ xs. set xs i c) place ∙ (seat_set s.0 i c size k ∙ ap (λ n. (s.0 ++ (c ∷ [])) ++ replicate (4 - n) empty_choice) (sym next)),
     )
 
 pub seat_all : (names : List StageName) (i : ℕ) (seats : List ByteCodec) → length names ≤ i → Seated (take i names) seats → Seated names seats

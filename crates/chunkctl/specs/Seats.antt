@@ -4,14 +4,14 @@ use Rattle.form.specs.Answers.{checked}
 use Rattle.stage.specs.Stage.{Stage}
 use Rattle.pair.specs.Compose.{after, or_else}
 use Rattle.pair.specs.declared.Pair.{Pair}
-use Rattle.byte_codecs.specs.declared.byte_codec.ByteCodec.{ByteCodec}
-use Rattle.byte_codecs.specs.declared.byte_codec.ByteCodec.TheVariants.{Empty, Shuffle, Fletcher32}
-use Rattle.byte_codecs.specs.Chosen.{chosen_stage}
+use Rattle.base_codecs.specs.declared.chosen.Chosen.TheVariants.{First, Second}
+use Rattle.base_codecs.specs.Chosen.{empty_choice}
+use Rattle.byte_codecs.specs.Chosen.{ByteCodec, chosen_stage}
 use Rattle.chunkctl.specs.declared.command.StageName.{StageName}
 use Rattle.chunkctl.specs.declared.command.StageName.TheVariants.{Shuffle as Shuffled, Fletcher32 as Summed}
 
 abbrev pub Stages : Type 0
-Stages = Pair ByteCodec (Pair ByteCodec (Pair ByteCodec ByteCodec ℕ) ℕ) ℕ
+Stages = Pair ByteCodec (Pair ByteCodec (Pair ByteCodec ByteCodec))
 
 -- what the four seats mean together
 abbrev pub stage_of : Stages → Stage ℕ ℕ
@@ -25,12 +25,12 @@ seats_of s = s.inner.inner.inner ∷ (s.inner.inner.outer ∷ (s.inner.outer ∷
 
 -- the codec is the stage with the name
 abbrev pub Named : StageName → ByteCodec → Type 0
-Named (Shuffled e) (Shuffle c) = c.elementsize ≡ e
-Named (Shuffled e) Empty = ⊥
-Named (Shuffled e) (Fletcher32 c) = ⊥
-Named Summed (Fletcher32 c) = Unit {0}
-Named Summed Empty = ⊥
-Named Summed (Shuffle c) = ⊥
+Named (Shuffled e) (Second (First c)) = c.codec.elementsize ≡ e
+Named (Shuffled e) (First c) = ⊥
+Named (Shuffled e) (Second (Second c)) = ⊥
+Named Summed (Second (Second c)) = Unit {0}
+Named Summed (First c) = ⊥
+Named Summed (Second (First c)) = ⊥
 
 abbrev pub AllNamed : List StageName → List ByteCodec → Type 0
 AllNamed [] [] = Unit {0}
@@ -54,4 +54,4 @@ names_refusal taken (n ∷ ns) = or_else (add_refusal taken n) (names_refusal (t
 -- the stages have the first seats in their order, and the others are empty
 abbrev pub Seated : List StageName → List ByteCodec → Type 0
 Seated names seats =
-    (cs : List ByteCodec) × AllNamed names cs × (seats ≡ cs ++ replicate (4 - length names) Empty)
+    (cs : List ByteCodec) × AllNamed names cs × (seats ≡ cs ++ replicate (4 - length names) empty_choice)

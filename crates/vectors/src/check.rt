@@ -2,14 +2,14 @@
 use crate::kind::Kind;
 use crate::vector::Vector;
 use buffers::Buffers;
-use byte_codecs::byte_codec::ByteCodec;
+use byte_codecs::byte_codec::{self, ByteCodec};
 use fletcher32::fletcher32_codec::Fletcher32Codec;
 use form::fault::Fault;
 use pair::Pair;
 use shuffle::shuffle_codec::ShuffleCodec;
 
 // Two byte stages; the inner encodes first.
-type Stages = Pair<ByteCodec, ByteCodec, usize>;
+type Stages = Pair<ByteCodec, ByteCodec>;
 
 // Undoes all singles into the output, with checks on.
 fn undo_all(
@@ -29,21 +29,21 @@ fn left(buffers: &Buffers, count: Result<usize, Fault>, bytes: &[u8]) -> bool {
 
 // The stages of a kind, and how many singles they have.
 fn stages_of(kind: Kind, size: usize) -> Result<(Stages, usize), Fault> {
-    let checksum = ByteCodec::Fletcher32(Fletcher32Codec::new());
+    let checksum = byte_codec::fletcher32(Fletcher32Codec::new());
     match kind {
         Kind::Shuffle | Kind::ShuffleRefuse => {
-            let shuffle = ByteCodec::Shuffle(ShuffleCodec::new(size)?);
-            Ok((Pair::new(ByteCodec::Empty, shuffle), 1))
+            let shuffle = byte_codec::shuffle(ShuffleCodec::new(size)?);
+            Ok((Pair::new(ByteCodec::empty(), shuffle), 1))
         }
         Kind::ChecksumFunction | Kind::ChecksumFile | Kind::ChecksumFileBad => {
-            Ok((Pair::new(ByteCodec::Empty, checksum), 1))
+            Ok((Pair::new(ByteCodec::empty(), checksum), 1))
         }
         Kind::ShuffleChecksum => {
-            let shuffle = ByteCodec::Shuffle(ShuffleCodec::new(size)?);
+            let shuffle = byte_codec::shuffle(ShuffleCodec::new(size)?);
             Ok((Pair::new(checksum, shuffle), 2))
         }
         Kind::ChecksumShuffle => {
-            let shuffle = ByteCodec::Shuffle(ShuffleCodec::new(size)?);
+            let shuffle = byte_codec::shuffle(ShuffleCodec::new(size)?);
             Ok((Pair::new(shuffle, checksum), 2))
         }
     }

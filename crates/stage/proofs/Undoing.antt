@@ -115,7 +115,3 @@ pub moved : {F G : Type 0} (bF : F → ℕ) (t : Stage F G) (f : F) (a a' b : �
 moved bF t f a a' b c w w₀ w' sc sc₀ q ea ew es d =
     subst (λ v. Undone bF t f v b c w w' sc q) ea
     (subst (λ v. Undone bF t f a' b c v w' sc q) ew (subst (λ v. Undone bF t f a' b c w₀ w' v q) es d))
-
--- what one stage undoes, the same stage undoes by its other name
-pub undone_by : {F G : Type 0} (bF : F → ℕ) (t u : Stage F G) → u ≡ t → (f : F) (i j : ℕ) (checks : Bool) (before behind : List ℕ) (scratch : ℕ) (r : Result ℕ Fault) → Undone bF t f i j checks before behind scratch r → Undone bF u f i j checks before behind scratch r
-undone_by bF t u e f i j checks before behind scratch r d = subst (λ v. Undone bF v f i j checks before behind scratch r) (sym e) d

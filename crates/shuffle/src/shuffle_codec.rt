@@ -56,7 +56,8 @@ impl ShuffleCodec {
     }
 }
 
-// Writes a table of rows times cols by its columns.
+// Writes a table of rows times cols by its columns. Rows are cut by their number: chunks_exact takes no rows of 0 bytes, and
+// decoding no bytes has such.
 fn turn(rows: usize, cols: usize, table: &[u8], out: &mut [u8])
     requires whole { length table.now ≡ rows * cols }
     requires room { length out.old ≡ rows * cols }

@@ -7,6 +7,7 @@ use fletcher32::fletcher32_codec::Fletcher32Codec;
 use form::fault::Fault;
 use pair::Pair;
 use shuffle::shuffle_codec::ShuffleCodec;
+use stage::codec::Codec;
 
 // Two byte stages; the inner encodes first.
 type Stages = Pair<ByteCodec, ByteCodec>;
@@ -16,9 +17,9 @@ fn undo_all(
     buffers: &mut Buffers,
     stages: &Stages,
     decoded: usize,
-    singles: usize,
     input: &[u8],
 ) -> Result<usize, Fault> {
+    let singles = stages.singles().ok_or(Fault::Length)?;
     buffers.undo(stages, &decoded, 0, singles, true, input)
 }
 
@@ -27,60 +28,52 @@ fn left(buffers: &Buffers, count: Result<usize, Fault>, bytes: &[u8]) -> bool {
     matches!(count, Ok(n) if buffers.output.as_slice().get(..n) == Some(bytes))
 }
 
-// The stages of a kind, and how many singles they have.
-fn stages_of(kind: Kind, size: usize) -> Result<(Stages, usize), Fault> {
+// The stages of a kind.
+fn stages_of(kind: Kind, size: usize) -> Result<Stages, Fault> {
     let checksum = byte_codec::fletcher32(Fletcher32Codec::new());
     match kind {
         Kind::Shuffle | Kind::ShuffleRefuse => {
             let shuffle = byte_codec::shuffle(ShuffleCodec::new(size)?);
-            Ok((Pair::new(ByteCodec::empty(), shuffle), 1))
+            Ok(Pair::new(ByteCodec::empty(), shuffle))
         }
         Kind::ChecksumFunction | Kind::ChecksumFile | Kind::ChecksumFileBad => {
-            Ok((Pair::new(ByteCodec::empty(), checksum), 1))
+            Ok(Pair::new(ByteCodec::empty(), checksum))
         }
         Kind::ShuffleChecksum => {
             let shuffle = byte_codec::shuffle(ShuffleCodec::new(size)?);
-            Ok((Pair::new(checksum, shuffle), 2))
+            Ok(Pair::new(checksum, shuffle))
         }
         Kind::ChecksumShuffle => {
             let shuffle = byte_codec::shuffle(ShuffleCodec::new(size)?);
-            Ok((Pair::new(shuffle, checksum), 2))
+            Ok(Pair::new(shuffle, checksum))
         }
     }
 }
 
 // Whether the input is encoded to the bytes, and these are undone to the input.
-fn both_ways(
-    buffers: &mut Buffers,
-    stages: &Stages,
-    singles: usize,
-    input: &[u8],
-    bytes: &[u8],
-) -> bool {
+fn both_ways(buffers: &mut Buffers, stages: &Stages, input: &[u8], bytes: &[u8]) -> bool {
     let count = buffers.encode(stages, &input.len(), input);
     if !left(buffers, count, bytes) {
         return false;
     }
-    let count = undo_all(buffers, stages, input.len(), singles, bytes);
+    let count = undo_all(buffers, stages, input.len(), bytes);
     left(buffers, count, input)
 }
 
 // Whether the checksum that is stored after the input is these bytes.
 fn stored_checksum(buffers: &mut Buffers, stages: &Stages, input: &[u8], bytes: &[u8]) -> bool {
-    match buffers.encode(stages, &input.len(), input) {
-        Ok(n) => {
-            let output = buffers.output.as_slice();
-            let start = input.len();
-            start <= n && n <= output.len() && &output[start..n] == bytes
-        }
-        Err(_) => false,
-    }
+    let Ok(n) = buffers.encode(stages, &input.len(), input) else {
+        return false;
+    };
+    buffers.output.as_slice().get(input.len()..n) == Some(bytes)
 }
 
 // Whether the library does what the peer does.
 pub fn agrees(buffers: &mut Buffers, vector: &Vector) -> bool {
     let input = vector.input.as_slice();
-    let Ok((stages, singles)) = stages_of(vector.kind, vector.size) else {
+    // a shuffle refuses the size 0
+    let size = vector.size.unwrap_or(0);
+    let Ok(stages) = stages_of(vector.kind, size) else {
         return false;
     };
     match (vector.kind, &vector.output) {
@@ -92,14 +85,13 @@ pub fn agrees(buffers: &mut Buffers, vector: &Vector) -> bool {
         }
         (Kind::ChecksumFileBad, None) => {
             let decoded = input.len().saturating_sub(4);
-            let undone = undo_all(buffers, &stages, decoded, singles, input);
+            let undone = undo_all(buffers, &stages, decoded, input);
             matches!(undone, Err(Fault::Checksum(0)))
         }
-        (Kind::ShuffleRefuse | Kind::ChecksumFileBad, Some(_)) => false,
+        (Kind::ShuffleRefuse | Kind::ChecksumFileBad, _) | (_, None) => false,
         (Kind::ChecksumFunction, Some(bytes)) => {
             stored_checksum(buffers, &stages, input, bytes.as_slice())
         }
-        (_, Some(bytes)) => both_ways(buffers, &stages, singles, input, bytes.as_slice()),
-        (_, None) => false,
+        (_, Some(bytes)) => both_ways(buffers, &stages, input, bytes.as_slice()),
     }
 }

@@ -1,6 +1,12 @@
 // The kinds of vectors, and how many of each were equal.
+ghost use Rattle.std.specs.Prelude.{◌≡◌, ◌≢◌, Some, codes};
+ghost use Rattle.vectors.specs.Kind.{kind_name, Named};
+ghost use Rattle.vectors.specs.Tally.{count_of, no_count, one_more, count_text};
 
-#[derive(Clone, Copy)]
+use std::error::Error;
+use std::fmt;
+
+#[derive(Clone, Copy, Debug, PartialEq, Eq)]
 pub enum Kind {
     // shuffled bytes
     Shuffle,
@@ -29,20 +35,9 @@ pub const KINDS: [Kind; 7] = [
 ];
 
 impl Kind {
-    pub fn named(word: &[u8]) -> Option<Kind> {
-        match word {
-            b"shuffle" => Some(Kind::Shuffle),
-            b"shuffle-refuse" => Some(Kind::ShuffleRefuse),
-            b"fletcher32-h5func" => Some(Kind::ChecksumFunction),
-            b"fletcher32-hdf5" => Some(Kind::ChecksumFile),
-            b"fletcher32-hdf5-bad" => Some(Kind::ChecksumFileBad),
-            b"hdf5-shuffle-fletcher" => Some(Kind::ShuffleChecksum),
-            b"hdf5-fletcher-shuffle" => Some(Kind::ChecksumShuffle),
-            _ => None,
-        }
-    }
-
-    pub fn name(self) -> &'static str {
+    fn name(self) -> &'static str
+        ensures { result.now ≡ kind_name self }
+    {
         match self {
             Kind::Shuffle => "shuffle",
             Kind::ShuffleRefuse => "shuffle-refuse",
@@ -55,32 +50,87 @@ impl Kind {
     }
 }
 
-// How many vectors of each kind were equal, and how many differed.
+impl fmt::Display for Kind {
+    ghost output = { λ kind. Some (kind_name kind) };
+
+    fn fmt<W: fmt::Write>(&self, f: &mut fmt::Formatter<W>) -> fmt::Result {
+        f.write_str(self.name())
+    }
+}
+
+// A word that names no kind.
+#[derive(Clone, Copy, Debug, PartialEq, Eq)]
+pub struct UnknownKind;
+
+impl fmt::Display for UnknownKind {
+    ghost output = { λ _. Some (codes "no kind of vector") };
+
+    fn fmt<W: fmt::Write>(&self, f: &mut fmt::Formatter<W>) -> fmt::Result {
+        f.write_str("no kind of vector")
+    }
+}
+
+impl Error for UnknownKind {}
+
+impl TryFrom<&[u8]> for Kind {
+    type Error = UnknownKind;
+
+    ghost try_from_gives = { λ word r. Named word.now r };
+
+    fn try_from(word: &[u8]) -> Result<Kind, UnknownKind> {
+        KINDS
+            .iter()
+            .find(|kind| kind.name().as_bytes() == word)
+            .copied()
+            .ok_or(UnknownKind)
+    }
+}
+
+// How many vectors were equal, and how many differed.
+#[derive(Clone, Copy, Debug, Default, PartialEq, Eq)]
+pub struct Count {
+    pub equal: u64,
+    pub differ: u64,
+}
+
+impl fmt::Display for Count {
+    ghost output = { λ count. Some (count_text count) };
+
+    fn fmt<W: fmt::Write>(&self, f: &mut fmt::Formatter<W>) -> fmt::Result {
+        write!(f, "{} equal, {} differ", self.equal, self.differ)
+    }
+}
+
+// A count for each kind, at the place of the kind; a map could run out of memory, and `count` cannot fail.
 #[derive(Clone, Copy)]
 pub struct Tally {
-    equal: [u64; 7],
-    differ: [u64; 7],
+    counts: [Count; 7],
 }
 
 impl Tally {
-    pub fn new() -> Tally {
+    pub fn new() -> Tally
+        ensures { (kind : _) → count_of result kind ≡ no_count }
+    {
         Tally {
-            equal: [0; 7],
-            differ: [0; 7],
+            counts: [Count::default(); 7],
         }
     }
 
-    pub fn count(&mut self, kind: Kind, equal: bool) {
-        let i = kind as usize;
+    pub fn count(&mut self, kind: Kind, equal: bool)
+        ensures counted { count_of self.new kind ≡ one_more equal (count_of self.old kind) }
+        ensures others { (k : _) → k ≢ kind → count_of self.new k ≡ count_of self.old k }
+    {
+        let count = &mut self.counts[kind as usize];
         if equal {
-            self.equal[i] = self.equal[i].saturating_add(1);
+            count.equal = count.equal.saturating_add(1);
         } else {
-            self.differ[i] = self.differ[i].saturating_add(1);
+            count.differ = count.differ.saturating_add(1);
         }
     }
 
-    pub fn of(&self, kind: Kind) -> (u64, u64) {
-        let i = kind as usize;
-        (self.equal[i], self.differ[i])
+    pub fn of(&self, kind: Kind) -> Count
+        ensures { result ≡ count_of self.now kind }
+    {
+        self.counts[kind as usize]
     }
 }

@@ -4,9 +4,10 @@
 use buffers::Buffers;
 use check::agrees;
 use kind::{KINDS, Tally};
+use std::alloc::AllocError;
 use std::io;
 use std::io::{BufRead, BufReader};
-use vector::{Line, parse};
+use vector::{ParseError, parse};
 
 mod check;
 mod kind;
@@ -20,34 +21,32 @@ fn test(
     number: u64,
     line: &[u8],
 ) -> io::Result<()> {
-    match parse(rt.alloc(), line)? {
-        Line::Nothing => Ok(()),
-        Line::Malformed => println!(rt; "line {number}: no vector"),
-        Line::Vector(vector) => {
-            let equal = agrees(buffers, &vector);
-            tally.count(vector.kind, equal);
-            if equal {
-                return Ok(());
-            }
-            let name = vector.kind.name();
-            println!(rt; "line {number}: {name} differs")
-        }
+    let vector = match parse(rt.alloc(), line) {
+        Ok(Some(vector)) => vector,
+        Ok(None) => return Ok(()),
+        Err(ParseError::OutOfMemory) => return Err(AllocError.into()),
+        Err(error) => return println!(rt; "line {number}: {error}"),
+    };
+    let kind = vector.kind;
+    let equal = agrees(buffers, &vector);
+    tally.count(kind, equal);
+    if equal {
+        return Ok(());
     }
+    println!(rt; "line {number}: {kind} differs")
 }
 
 fn main(rt: HostRuntime) -> io::Result<()> {
     let heap = rt.alloc();
     let mut buffers = Buffers::new(heap, 4096)?;
     let mut tally = Tally::new();
-    let mut number: u64 = 0;
-    for line in BufReader::new(heap, rt.stdin())?.lines(heap) {
-        number = number.saturating_add(1);
+    let lines = BufReader::new(heap, rt.stdin())?.lines(heap);
+    for (number, line) in (1..).zip(lines) {
         test(&rt, &mut buffers, &mut tally, number, line?.as_bytes())?;
     }
     for kind in KINDS {
-        let name = kind.name();
-        let (equal, differ) = tally.of(kind);
-        println!(rt; "{name} {equal} equal, {differ} differ")?;
+        let count = tally.of(kind);
+        println!(rt; "{kind} {count}")?;
     }
     Ok(())
 }

@@ -1,7 +1,6 @@
 -- How answers are written.
 use Rattle.std.specs.Prelude.{ℕ, ◌/◌, ◌%◌, Bool, cond, List, [], ◌∷◌, ◌++◌, take, Some, None, Ok, Err, vec_items, codes, decimal, unwrap_or, Option, Result}
-use Rattle.form.specs.declared.fault.Fault.{Fault}
-use Rattle.form.specs.Refusals.{refusal, value_of}
+use Rattle.form.specs.Refusals.{fault_text}
 use Rattle.stage.specs.declared.capability.PartialDecoderCapability.{PartialDecoderCapability}
 use Rattle.text.specs.Hex.{hex_of}
 use Rattle.chunkctl.specs.declared.trouble.Complaint.{Complaint}
@@ -37,14 +36,6 @@ single_text s = yes_no s.partial_read ++ (codes "/" ++ yes_no s.partial_decode)
 
 abbrev pub singles_text : List Single → List ℕ
 singles_text ss = list_text (λ s. single_text s.0) ss
-
--- the single that a failed test names
-abbrev pub at_text : Option ℕ → List ℕ
-at_text None = []
-at_text (Some k) = codes " at " ++ decimal k
-
-abbrev pub fault_text : Fault → List ℕ
-fault_text e = codes "refused " ++ (decimal (refusal e).number ++ at_text (value_of (refusal e)))
 
 abbrev pub complaint_text : Complaint → List ℕ
 complaint_text NoMemory = codes "no memory"

@@ -56,7 +56,7 @@ impl From<AllocError> for Complaint {
     }
 }
 
-#[derive(Clone, Copy)]
+#[derive(Clone, Copy, Debug)]
 pub enum Trouble {
     // the library refuses
     Refused(Fault),
@@ -69,17 +69,13 @@ impl fmt::Display for Trouble {
 
     fn fmt<W: fmt::Write>(&self, f: &mut fmt::Formatter<W>) -> fmt::Result {
         match self {
-            Trouble::Refused(fault) => {
-                let number = fault.number();
-                match fault.single() {
-                    Some(single) => write!(f, "refused {number} at {single}"),
-                    None => write!(f, "refused {number}"),
-                }
-            }
+            Trouble::Refused(fault) => write!(f, "{fault}"),
             Trouble::Error(complaint) => write!(f, "error: {complaint}"),
         }
     }
 }
+
+impl std::error::Error for Trouble {}
 
 impl From<Fault> for Trouble {
     ghost from_gives = { λ e r. r ≡ Refused e };

@@ -59,7 +59,7 @@ impl From<UnknownKind> for ParseError {
     }
 }
 
-// The first four of the five words of a line.
+// The first four of the five words of a line; an array of them in an Option gets no proof.
 #[derive(Clone, Copy)]
 struct Fields<'a> {
     kind: &'a [u8],
@@ -68,6 +68,7 @@ struct Fields<'a> {
     output: &'a [u8],
 }
 
+// What a line of five words has, or None of another line.
 fn words(line: &[u8]) -> Option<Fields<'_>>
     ensures { IfSome result (λ f. (peer : _) × SplitsInto line.now (f.kind.now ∷ f.params.now ∷ f.input.now ∷ f.output.now ∷ peer ∷ [])) }
 {

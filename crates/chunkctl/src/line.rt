@@ -1,4 +1,5 @@
 // Lines of any bytes from a buffered input.
+ghost use Rattle.std.specs.Prelude.{◌≡◌, ◌-◌, ◌^◌};
 ghost use Rattle.std.specs.Iterator.{at_most};
 ghost use Rattle.chunkctl.specs.Lines.{Grown};
 
@@ -93,7 +94,10 @@ pub struct Lines<R> {
 }
 
 impl<R> Lines<R> {
-    pub fn new(heap: Global, reader: R) -> Lines<R> {
+    pub fn new(heap: Global, reader: R) -> Lines<R>
+        ensures whole { result.reader ≡ reader }
+        ensures many { result.left ≡ 2 ^ 64 - 1 }
+    {
         Lines {
             heap,
             reader,

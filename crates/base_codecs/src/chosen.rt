@@ -1,4 +1,5 @@
-// One of two codecs, chosen at run time.
+// One of two codecs, chosen at run time. An enum of its own: `Either` is another crate's, and so is `Codec`, so that no impl
+// here could join the two.
 ghost use Rattle.std.specs.Prelude.{◌≡◌};
 ghost use Rattle.base_codecs.specs.Empty.{empty_stage};
 ghost use Rattle.base_codecs.specs.Chosen.{chosen, empty_choice};

@@ -50,7 +50,8 @@ impl Look {
 }
 
 // Reads the next line that is neither blank nor a comment, without its newline, or says why it is not kept; the rest of it
-// is skipped then.
+// is skipped then. Three layers: the input fails, it ends, or a line of it is
+// not kept.
 fn next_line<R: BufRead>(
     heap: Global,
     reader: &mut R,

@@ -1,4 +1,5 @@
-// The calls of any codec from an input into an output, by way of two work buffers.
+// The calls of any codec from an input into an output, by way of two work buffers. All four are slices, since nothing here
+// allocates; `buffers` keeps the last three together where there is a heap.
 #![tactic(auto)]
 
 ghost use Rattle.std.specs.Prelude.{◌≡◌, length};

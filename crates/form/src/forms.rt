@@ -46,7 +46,8 @@ fn padded(shape: &[usize], data_type: DataType, fill: &[u8]) -> Form
 }
 
 impl Form {
-    // The form with the shape, the data type of the code and the fill value.
+    // The form with the shape, the data type of the code and the fill value. The code is a number, since one that no data type
+    // has is refused here, after the shape.
     pub fn new(shape: &[usize], code: usize, fill: &[u8]) -> Result<Form, Fault>
         ensures { Answers (form_refusal shape.now code fill.now) (Made shape.now code fill.now) result }
     {

@@ -1,4 +1,5 @@
-// What a single coding can do for a part of an array.
+// What a single coding can do for a part of an array. Each codec writes out both fields: a constructor for a pair of them would
+// say no more plainly what the codec can do.
 
 #[derive(Clone, Copy)]
 pub struct PartialDecoderCapability {

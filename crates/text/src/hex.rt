@@ -68,7 +68,8 @@ fn pairs(heap: Global, word: &[u8]) -> Result<Option<Vec<u8>>, AllocError>
     Ok(left.is_empty().then_some(bytes))
 }
 
-// The bytes that a word writes, or None where it is not what `push_hex` writes of any bytes.
+// The bytes that a word writes, or None where it is not what `push_hex` writes of any bytes. An Option inside, and no error enum:
+// callers have words of their own for such a word, and memory is std's error.
 pub fn parse_hex(heap: Global, word: &[u8]) -> Result<Option<Vec<u8>>, AllocError>
     ensures { IfOk result (λ o. option_map vec_items o ≡ hex_parsed word.now) }
 {

@@ -2,7 +2,7 @@
 ghost use Rattle.std.specs.Prelude.{◌≡◌};
 ghost use Rattle.stage.specs.Arrays.{array_bytes};
 ghost use Rattle.stage.specs.Single.{single};
-ghost use Rattle.base_codecs.specs.declared.chosen.Chosen.TheVariants.{Second, First};
+ghost use Rattle.base_codecs.specs.declared.chosen.Chosen.TheVariants.{First, Second};
 ghost use Rattle.transpose.specs.Transpose.{transposing};
 ghost use Rattle.difference.specs.Difference.{differencing};
 
@@ -16,6 +16,7 @@ use transpose::transpose_codec::TransposeCodec;
 
 pub type ArrayCodec = Chosen<Empty<Form>, Chosen<Single<TransposeCodec>, Single<DifferenceCodec>>>;
 
+// The choices by their names; that of the codec that changes nothing is `empty`.
 pub fn transpose(codec: TransposeCodec) -> ArrayCodec
     ensures value { result ≡ Second (First (record { codec = codec })) }
     ensures meaning { ⟦<ArrayCodec as Codec>⟧.meaning result ≡ single array_bytes array_bytes (transposing codec.order codec.dims) }

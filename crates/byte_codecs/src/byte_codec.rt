@@ -14,6 +14,7 @@ use stage::codec::Codec;
 
 pub type ByteCodec = Chosen<Empty<usize>, Chosen<Single<ShuffleCodec>, Single<Fletcher32Codec>>>;
 
+// The choices by their names; that of the codec that changes nothing is `empty`.
 pub fn shuffle(codec: ShuffleCodec) -> ByteCodec
     ensures value { result ≡ Second (First (record { codec = codec })) }
     ensures meaning { ⟦<ByteCodec as Codec>⟧.meaning result ≡ single (λ n. n) (λ n. n) (shuffling codec.elementsize) }

@@ -1,5 +1,7 @@
 // The difference codec: each element less the one before it.
-ghost use Rattle.std.specs.Prelude.{◌≡◌, length};
+ghost use Rattle.std.specs.Prelude.{◌≡◌, length, take, Ok};
+ghost use Rattle.form.specs.Refusals.{only_if};
+ghost use Rattle.stage.specs.Calls.{InPlace, roomy};
 ghost use Rattle.stage.specs.Arrays.{element_count, array_bytes};
 ghost use Rattle.difference.specs.Difference.{group_of, first_stays, on_elements, differencing, Differs, Restores};
 ghost use Rattle.difference.specs.Laws.{differencing_laws, differencing_arrays};
@@ -29,6 +31,16 @@ fn turn_array<D: Direction>(form: &Form, array: &mut [u8])
         DataType::Float32 => turn::<D, _>(&Exclusive::<u32>::new(), array),
         DataType::Float64 => turn::<D, _>(&Exclusive::<u64>::new(), array),
     }
+}
+
+// The same of the array in the front of a buffer.
+fn turn_front<D: Direction>(form: &Form, buf: &mut [u8], scratch: &[u8]) -> Result<usize, Fault>
+    ensures { let o = group_of form.now.data_type in InPlace (only_if (roomy (length buf.old) (length scratch.now)) 14 (Ok (array_bytes form.now))) (on_elements (first_stays (D.after o)) o.width (element_count form.now) (take (array_bytes form.now) buf.old)) buf.new result }
+{
+    room(buf, scratch)?;
+    let size = form.bytes();
+    turn_array::<D>(form, &mut buf[..size]);
+    Ok(size)
 }
 
 #[derive(Clone, Copy)]
@@ -61,17 +73,11 @@ impl SingleCodec for DifferenceCodec {
     }
 
     fn encode(&self, form: &Form, buf: &mut [u8], scratch: &mut [u8]) -> Result<usize, Fault> {
-        room(buf, scratch)?;
-        let size = form.bytes();
-        turn_array::<Differences>(form, &mut buf[..size]);
-        Ok(size)
+        turn_front::<Differences>(form, buf, scratch)
     }
 
     fn decode(&self, form: &Form, buf: &mut [u8], scratch: &mut [u8]) -> Result<usize, Fault> {
-        room(buf, scratch)?;
-        let size = form.bytes();
-        turn_array::<Sums>(form, &mut buf[..size]);
-        Ok(size)
+        turn_front::<Sums>(form, buf, scratch)
     }
 
     fn test(&self, form: &Form, buf: &[u8]) -> Result<bool, Fault> {

@@ -57,9 +57,6 @@ module _ {F G : Type 0} (bF : F → ℕ) (t : Stage F G) (f : F) (r : t.refusal 
   pub sized : (k : ℕ) → k ≤ length t.singles → size_answer t f k ≡ Ok (t.size f k)
   sized k h = let b : leb k (length t.singles) ≡ true = le-leb k _ h in rw (r, b)
 
-  pub unsized : (k : ℕ) → length t.singles < k → size_answer t f k ≡ Err (plain 13)
-  unsized k h = let b : leb k (length t.singles) ≡ false = lt-leb k _ h in rw (r, b)
-
   module _ (a b : ℕ) (c : Bool) (w w' : List ℕ) (sc : ℕ) (q : Result ℕ Fault) where
     abbrev x : List ℕ
     x = take (t.size f a) w

@@ -62,10 +62,7 @@ impl SingleCodec for DifferenceCodec {
     ghost lawful = { λ s. differencing_laws };
 
     fn capability(&self) -> PartialDecoderCapability {
-        PartialDecoderCapability {
-            partial_read: false,
-            partial_decode: false,
-        }
+        PartialDecoderCapability::WHOLE_ONLY
     }
 
     fn coded(&self, form: &Form) -> Result<Form, Fault> {

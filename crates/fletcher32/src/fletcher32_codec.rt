@@ -118,10 +118,7 @@ impl SingleCodec for Fletcher32Codec {
     ghost lawful = { λ s. checksumming_laws };
 
     fn capability(&self) -> PartialDecoderCapability {
-        PartialDecoderCapability {
-            partial_read: false,
-            partial_decode: false,
-        }
+        PartialDecoderCapability::WHOLE_ONLY
     }
 
     fn coded(&self, form: &usize) -> Result<usize, Fault> {

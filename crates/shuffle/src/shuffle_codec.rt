@@ -80,10 +80,7 @@ impl SingleCodec for ShuffleCodec {
     ghost lawful = { λ s. shuffling_laws s.elementsize };
 
     fn capability(&self) -> PartialDecoderCapability {
-        PartialDecoderCapability {
-            partial_read: false,
-            partial_decode: false,
-        }
+        PartialDecoderCapability::WHOLE_ONLY
     }
 
     fn coded(&self, form: &usize) -> Result<usize, Fault> {

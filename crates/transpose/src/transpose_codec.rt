@@ -96,10 +96,7 @@ impl SingleCodec for TransposeCodec {
     ghost lawful = { λ s. transposing_laws s.order s.dims (record { ranged = s.ranged; found = s.found }) };
 
     fn capability(&self) -> PartialDecoderCapability {
-        PartialDecoderCapability {
-            partial_read: true,
-            partial_decode: true,
-        }
+        PartialDecoderCapability::BY_PARTS
     }
 
     fn coded(&self, form: &Form) -> Result<Form, Fault> {

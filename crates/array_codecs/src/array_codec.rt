@@ -5,6 +5,7 @@ ghost use Rattle.stage.specs.Single.{single};
 ghost use Rattle.base_codecs.specs.declared.chosen.Chosen.TheVariants.{First, Second};
 ghost use Rattle.transpose.specs.Transpose.{transposing};
 ghost use Rattle.difference.specs.Difference.{differencing};
+ghost use Rattle.array_codecs.specs.Chosen.{chosen_array};
 
 use base_codecs::chosen::Chosen;
 use base_codecs::empty::Empty;
@@ -16,7 +17,8 @@ use transpose::transpose_codec::TransposeCodec;
 
 pub type ArrayCodec = Chosen<Empty<Form>, Chosen<Single<TransposeCodec>, Single<DifferenceCodec>>>;
 
-// The choices by their names; that of the codec that changes nothing is `empty`.
+// The choices by their names, each a function of its own since the name is all that it adds; that of the codec that changes
+// nothing is `empty`.
 pub fn transpose(codec: TransposeCodec) -> ArrayCodec
     ensures value { result ≡ Second (First (record { codec = codec })) }
     ensures meaning { ⟦<ArrayCodec as Codec>⟧.meaning result ≡ single array_bytes array_bytes (transposing codec.order codec.dims) }
@@ -30,3 +32,8 @@ pub fn difference(codec: DifferenceCodec) -> ArrayCodec
 {
     Chosen::Second(Chosen::Second(Single::new(codec)))
 }
+
+// What a choice means is what the chosen codec means.
+pub fn array_choice_stands(codec: &ArrayCodec)
+    ensures { ⟦<ArrayCodec as Codec>⟧.meaning codec.now ≡ chosen_array codec.now }
+{}

@@ -1,12 +1,11 @@
-// One of two codecs, chosen at run time. An enum of its own: `Either` is another crate's, and so is `Codec`, so that no impl
-// here could join the two.
+// One of two codecs, chosen at run time: each call goes to the one that was chosen. An enum of its own, since `Either` of the
+// kit would want its impl in `stage`, beside the trait, and would say no more.
 ghost use Rattle.std.specs.Prelude.{◌≡◌};
 ghost use Rattle.base_codecs.specs.Empty.{empty_stage};
 ghost use Rattle.base_codecs.specs.Chosen.{chosen, empty_choice};
 ghost use Rattle.base_codecs.specs.Choosing.{chosen_laws, chosen_arrays};
 
 use crate::empty::Empty;
-use form::array_form::Form;
 use form::fault::Fault;
 use stage::array_to_array::ArrayToArrayCodec;
 use stage::capability::PartialDecoderCapability;

@@ -45,6 +45,8 @@ impl fmt::Display for Single {
 
 const COMMANDS: &str = " help out work peek form stages singles lengths encode undo sum data";
 
+// What writes takes the allocator, if it allocates, and the text, as std's functions do; a struct of the two would be taken apart
+// again at each call of them.
 fn push_text(out: &mut Vec<u8>, text: &str) -> Result<(), AllocError>
     ensures { OnOk result (out.new.items ≡ out.old.items ++ text.now) }
 {
@@ -87,8 +89,8 @@ fn front(bytes: &[u8], n: usize) -> &[u8]
     bytes.get(..n).unwrap_or(bytes)
 }
 
-// A blank and the value of an answer that has one; `output` is the output buffer. The line is pushed and not one Display:
-// through a formatter the digits of a large buffer take eight times as long.
+// A blank and the value of an answer that has one; `output` is the output buffer. The line is pushed and not one Display: it was
+// to be no slower than before, and through a formatter the digits of a large buffer took eight times as long.
 fn push_value(
     heap: Global,
     out: &mut Vec<u8>,

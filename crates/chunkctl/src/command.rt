@@ -1,5 +1,6 @@
 // The commands, and how a line says one.
 use crate::trouble::Complaint;
+use form::data_type::DataType;
 use std::alloc::Global;
 use text::hex::parse_hex;
 use text::number::parse_number;
@@ -30,7 +31,7 @@ pub enum Command {
     // in encode order
     Stages(Vec<StageName>),
     Singles,
-    // of what has the decoded length
+    // the decoded length
     Lengths(usize),
     Encode(Vec<u8>),
     Undo(Undo),
@@ -51,6 +52,7 @@ pub struct Undo {
 // The words that are left of a line.
 #[derive(Clone, Copy)]
 struct Words<'a> {
+    heap: Global,
     left: &'a [u8],
 }
 
@@ -65,8 +67,25 @@ impl<'a> Words<'a> {
         parse_size(self.next()?).ok_or(Complaint::Number)
     }
 
-    fn hex(&mut self, heap: Global) -> Result<Vec<u8>, Complaint> {
-        parse_hex(heap, self.next()?)?.ok_or(Complaint::Hex)
+    fn hex(&mut self) -> Result<Vec<u8>, Complaint> {
+        parse_hex(self.heap, self.next()?)?.ok_or(Complaint::Hex)
+    }
+
+    // The parts of the next word that a separator joins, as `parse` reads each, or none for `-`.
+    fn list<T: Drop, F: Fn(&[u8]) -> Result<T, Complaint> + Drop>(
+        &mut self,
+        separator: u8,
+        parse: F,
+    ) -> Result<Vec<T>, Complaint>
+        requires { (f : F) (a : _) → F.FnMut.pre f a }
+    {
+        match self.next()? {
+            b"-" => Ok(Vec::new(self.heap)),
+            word => word
+                .split(|b| *b == separator)
+                .map(parse)
+                .try_collect(self.heap),
+        }
     }
 
     fn end(&self) -> Result<(), Complaint> {
@@ -81,42 +100,29 @@ fn parse_size(word: &[u8]) -> Option<usize> {
     Some(parse_number(word)? as usize)
 }
 
-// The parts that a separator joins, as `parse` reads each, or none for `-`.
-fn parse_list<T: Drop, F: Fn(&[u8]) -> Result<T, Complaint> + Drop>(
-    heap: Global,
-    word: &[u8],
-    separator: u8,
-    parse: F,
-) -> Result<Vec<T>, Complaint>
-    requires { (f : F) (a : _) → F.FnMut.pre f a }
-{
-    if word == b"-".as_slice() {
-        return Ok(Vec::new(heap));
-    }
-    word.split(|b| *b == separator).map(parse).try_collect(heap)
-}
-
 fn parse_length(word: &[u8]) -> Result<usize, Complaint> {
     parse_size(word).ok_or(Complaint::Shape)
 }
 
-// The code of a data type, by its name or as a number.
+// The code of a data type, by its name or as a number. Two names have codes that no data type of the library has: it refuses
+// them, as it does such a number.
 fn parse_type(word: &[u8]) -> Result<usize, Complaint> {
-    match word {
-        b"uint8" => Ok(1),
-        b"int8" => Ok(2),
-        b"uint16" => Ok(3),
-        b"int16" => Ok(4),
-        b"uint32" => Ok(5),
-        b"int32" => Ok(6),
-        b"uint64" => Ok(7),
-        b"int64" => Ok(8),
-        b"float32" => Ok(9),
-        b"float64" => Ok(10),
-        b"string" => Ok(11),
-        b"optional" => Ok(12),
-        _ => parse_size(word).ok_or(Complaint::DataType),
-    }
+    let data_type = match word {
+        b"uint8" => DataType::UInt8,
+        b"int8" => DataType::Int8,
+        b"uint16" => DataType::UInt16,
+        b"int16" => DataType::Int16,
+        b"uint32" => DataType::UInt32,
+        b"int32" => DataType::Int32,
+        b"uint64" => DataType::UInt64,
+        b"int64" => DataType::Int64,
+        b"float32" => DataType::Float32,
+        b"float64" => DataType::Float64,
+        b"string" => return Ok(11),
+        b"optional" => return Ok(12),
+        _ => return parse_size(word).ok_or(Complaint::DataType),
+    };
+    Ok(usize::from(data_type))
 }
 
 fn parse_stage(word: &[u8]) -> Result<StageName, Complaint> {
@@ -138,18 +144,18 @@ fn parse_switch(word: &[u8]) -> Result<bool, Complaint> {
     }
 }
 
-fn parse_undo(heap: Global, words: &mut Words<'_>) -> Result<Undo, Complaint> {
+fn parse_undo(words: &mut Words<'_>) -> Result<Undo, Complaint> {
     Ok(Undo {
         decoded: words.number()?,
         from: words.number()?,
         to: words.number()?,
         checks: parse_switch(words.next()?)?,
-        input: words.hex(heap)?,
+        input: words.hex()?,
     })
 }
 
 // The command with the name, from the words after it.
-fn parse_words(heap: Global, name: &[u8], words: &mut Words<'_>) -> Result<Command, Complaint> {
+fn parse_words(name: &[u8], words: &mut Words<'_>) -> Result<Command, Complaint> {
     let command = match name {
         b"help" => Command::Help,
         b"out" => Command::Out(words.number()?),
@@ -159,17 +165,17 @@ fn parse_words(heap: Global, name: &[u8], words: &mut Words<'_>) -> Result<Comma
         },
         b"peek" => Command::Peek,
         b"form" => Command::Form {
-            shape: parse_list(heap, words.next()?, b'x', parse_length)?,
+            shape: words.list(b'x', parse_length)?,
             code: parse_type(words.next()?)?,
-            fill: words.hex(heap)?,
+            fill: words.hex()?,
         },
-        b"stages" => Command::Stages(parse_list(heap, words.next()?, b'+', parse_stage)?),
+        b"stages" => Command::Stages(words.list(b'+', parse_stage)?),
         b"singles" => Command::Singles,
         b"lengths" => Command::Lengths(words.number()?),
-        b"encode" => Command::Encode(words.hex(heap)?),
-        b"undo" => Command::Undo(parse_undo(heap, words)?),
-        b"sum" => Command::Sum(words.hex(heap)?),
-        b"data" => Command::Data(words.hex(heap)?),
+        b"encode" => Command::Encode(words.hex()?),
+        b"undo" => Command::Undo(parse_undo(words)?),
+        b"sum" => Command::Sum(words.hex()?),
+        b"data" => Command::Data(words.hex()?),
         _ => return Err(Complaint::UnknownCommand),
     };
     Ok(command)
@@ -177,9 +183,9 @@ fn parse_words(heap: Global, name: &[u8], words: &mut Words<'_>) -> Result<Comma
 
 // The command that a line says.
 pub fn parse(heap: Global, line: &[u8]) -> Result<Command, Complaint> {
-    let mut words = Words { left: line };
+    let mut words = Words { heap, left: line };
     let name = words.next()?;
-    let command = parse_words(heap, name, &mut words)?;
+    let command = parse_words(name, &mut words)?;
     words.end()?;
     Ok(command)
 }

@@ -50,8 +50,7 @@ impl Look {
 }
 
 // Reads the next line that is neither blank nor a comment, without its newline, or says why it is not kept; the rest of it
-// is skipped then. Three layers: the input fails, it ends, or a line of it is
-// not kept.
+// is skipped then. Three layers: the input fails, it ends, or a line of it is not kept.
 fn next_line<R: BufRead>(
     heap: Global,
     reader: &mut R,
@@ -78,11 +77,7 @@ fn next_line<R: BufRead>(
             look = Look::Nothing;
         }
     }
-    Ok(if look == Look::Words {
-        Some(line)
-    } else {
-        None
-    })
+    Ok((look == Look::Words).then_some(line))
 }
 
 // The lines of an input that are neither blank nor comments.

@@ -14,7 +14,7 @@ use trouble::{Complaint, Trouble};
 
 mod answer;
 mod command;
-mod draft;
+mod seats;
 mod line;
 mod session;
 mod trouble;

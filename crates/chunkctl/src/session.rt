@@ -4,7 +4,7 @@ ghost use Rattle.chunkctl.specs.Carried.{IsError, FormSet, StagesSet, Encodes, U
 
 use crate::answer::{Answer, Single};
 use crate::command::{Command, StageName, Undo};
-use crate::draft::{Stages, built};
+use crate::seats::{Stages, built};
 use crate::trouble::{Complaint, Trouble};
 use buffers::Buffers;
 use fletcher32::fletcher32_codec::{data_before_checksum, h5_checksum_fletcher32};
@@ -175,7 +175,7 @@ impl Session {
             Command::Singles => singles(heap, &self.stages),
             Command::Lengths(decoded) => lengths(heap, &self.stages, decoded),
             Command::Encode(input) => encode(&self.stages, &mut self.buffers, input.as_slice()),
-            Command::Undo(undo_of) => undo(&self.stages, &mut self.buffers, &undo_of),
+            Command::Undo(request) => undo(&self.stages, &mut self.buffers, &request),
             Command::Sum(bytes) => Ok(Answer::Sum(h5_checksum_fletcher32(bytes.as_slice()))),
             Command::Data(bytes) => before_checksum(bytes),
         }

@@ -29,20 +29,20 @@ impl fmt::Display for Complaint {
     ghost output = { λ c. Some (complaint_text c) };
 
     fn fmt<W: fmt::Write>(&self, f: &mut fmt::Formatter<W>) -> fmt::Result {
-        match self {
-            Complaint::NoMemory => write!(f, "no memory"),
-            Complaint::LineTooLong => write!(f, "line too long"),
-            Complaint::UnknownCommand => write!(f, "no such command"),
-            Complaint::WordCount => write!(f, "wrong number of words"),
-            Complaint::Number => write!(f, "a number is expected, of at most 64 bits"),
-            Complaint::Hex => write!(f, "lower-case hexadecimal is expected, or -"),
-            Complaint::Shape => write!(f, "lengths joined by x are expected, or -"),
-            Complaint::DataType => write!(f, "no such data type"),
-            Complaint::Stage => write!(f, "no such stage"),
-            Complaint::Switch => write!(f, "on or off is expected"),
-            Complaint::BufferTooLarge => write!(f, "buffer too large"),
-            Complaint::NoStages => write!(f, "no stages yet"),
-        }
+        f.write_str(match self {
+            Complaint::NoMemory => "no memory",
+            Complaint::LineTooLong => "line too long",
+            Complaint::UnknownCommand => "no such command",
+            Complaint::WordCount => "wrong number of words",
+            Complaint::Number => "a number is expected, of at most 64 bits",
+            Complaint::Hex => "lower-case hexadecimal is expected, or -",
+            Complaint::Shape => "lengths joined by x are expected, or -",
+            Complaint::DataType => "no such data type",
+            Complaint::Stage => "no such stage",
+            Complaint::Switch => "on or off is expected",
+            Complaint::BufferTooLarge => "buffer too large",
+            Complaint::NoStages => "no stages yet",
+        })
     }
 }
 

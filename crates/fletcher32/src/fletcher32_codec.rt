@@ -51,7 +51,8 @@ impl Sums {
     }
 }
 
-// The checksum of bytes, of any number of them.
+// The checksum of bytes, of any number of them. A slice pattern takes the bytes, two for a word or a last one, as the definition
+// does.
 pub fn h5_checksum_fletcher32(bytes: &[u8]) -> u32
     ensures { result ≡ fletcher32 bytes.now }
 {

@@ -5,7 +5,8 @@ ghost use Rattle.form.specs.Shapes.{sound};
 
 use crate::data_type::DataType;
 
-// The first `dims` lengths are the shape, and the first bytes of `fill`, as many as an element has, are the fill value. `Form::new` sets the other lengths to 1 and the other bytes to 0.
+// The first `dims` lengths are the shape, and the first bytes of `fill`, as many as an element has, are the fill value.
+// `Form::new` sets the other lengths to 1 and the other bytes to 0.
 // The counts stand beside arrays, since codecs copy forms, and an `ArrayVec` is not `Copy`.
 #[derive(Clone, Copy)]
 pub struct Form {

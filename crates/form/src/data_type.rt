@@ -42,7 +42,7 @@ impl From<DataType> for usize {
     }
 }
 
-// The data type with the code.
+// The data type with the code. The codes stand here once more: a list of all ten and a search in it would be longer.
 impl TryFrom<usize> for DataType {
     type Error = Fault;
 

@@ -51,7 +51,7 @@ pub enum Fault {
 }
 
 impl Fault {
-    // The refusal's number. A match gives it, since an enum whose variant has a value has no discriminants.
+    // The refusal's number. A match gives it, since `as` takes no enum that has a variant with a value.
     pub fn number(&self) -> u8
         ensures { result ≡ (refusal self.now).number }
     {

@@ -1,4 +1,5 @@
-// The exclusive or of bits, of numbers as wide as W.
+// The exclusive or of bits, of numbers as wide as W. A type beside `Modular`, and not one of both over an operation: what they
+// share is a marker and the width, and a trait of operations would be as long again.
 ghost use Rattle.groups.specs.Groups.{exclusive};
 ghost use Rattle.groups.specs.Bitwise.{exclusive_laws};
 

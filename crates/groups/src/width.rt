@@ -1,7 +1,7 @@
 // How many bytes a number has, by the unsigned type that holds it.
 ghost use Rattle.std.specs.Prelude.{ℕ};
 ghost use Rattle.groups.specs.Groups.{Narrow};
-ghost use Rattle.std.proofs.Common.{lit≤};
+ghost use Rattle.std.proofs.Common.{rules};
 
 // A trait with one impl for each width, and no const parameter: a number would not say that it is one to eight, and
 // `Modular::new` and `Exclusive::new` ask nothing of their callers.
@@ -18,7 +18,7 @@ impl Width for u8 {
 
     ghost BYTES = { 1 };
 
-    ghost narrow = { (lit≤ tt, lit≤ tt) };
+    ghost narrow = { Prim.search rules };
 }
 
 impl Width for u16 {
@@ -26,7 +26,7 @@ impl Width for u16 {
 
     ghost BYTES = { 2 };
 
-    ghost narrow = { (lit≤ tt, lit≤ tt) };
+    ghost narrow = { Prim.search rules };
 }
 
 impl Width for u32 {
@@ -34,7 +34,7 @@ impl Width for u32 {
 
     ghost BYTES = { 4 };
 
-    ghost narrow = { (lit≤ tt, lit≤ tt) };
+    ghost narrow = { Prim.search rules };
 }
 
 impl Width for u64 {
@@ -42,5 +42,5 @@ impl Width for u64 {
 
     ghost BYTES = { 8 };
 
-    ghost narrow = { (lit≤ tt, lit≤ tt) };
+    ghost narrow = { Prim.search rules };
 }

@@ -1,10 +1,12 @@
 -- The laws of one stage after another, the first test that fails, and what the two halves' work makes of the pair's.
-use Rattle.std.specs.Prelude.{◌≡◌, ℕ, zero, suc, ◌+◌, ◌-◌, ◌<◌, ◌≤◌, Bool, true, false, cond, ◌⊎◌, List, ◌++◌, length, take, Some, None, Ok, Err, Option, Result, nat_le, nat_lt, refl}
+use Rattle.std.specs.Prelude.{◌≡◌, ℕ, zero, suc, ◌+◌, ◌-◌, ◌^◌, ◌<◌, ◌≤◌, Bool, true, false, cond, ◌⊎◌, List, [], ◌∷◌, ◌++◌, length, take, Some, None, Ok, Err, Option, Result, nat_le, nat_lt, refl}
 use Rattle.std.proofs.Common.{sym, ap, subst, ◌∙◌, inl, inr, ⊎_elim, arith, length-append}
+use Rattle.std.specs.Option.{SomeIff}
 use Rattle.std.proofs.lemmas.List.{length-take-le}
 use Rattle.std.proofs.lemmas.Bool.{cond-true, cond-false, le-leb, lt-leb, lt-ltb, le-ltb, cases_lt}
-use Rattle.form.specs.Refusals.{Refusal}
-use Rattle.stage.specs.Stage.{Bytes, Stage, Laws, first_false, failing, answered, checked, outcome}
+use Rattle.form.specs.Refusals.{Refusal, plain, unless}
+use Rattle.stage.specs.Stage.{Bytes, Counted, Stage, Laws, first_false, failing, answered, checked, outcome, at}
+use Rattle.stage.proofs.Refusing.{unless_ok}
 use Rattle.stage.proofs.Undoing.{Did, answered_ok}
 use Rattle.pair.specs.Compose.{or_else, lifted, after}
 
@@ -22,6 +24,29 @@ followed (Err e) r = Err e
 pub neither : {X : Type 0} (a b : Option X) → or_else a b ≡ None → (a ≡ None) × (b ≡ None)
 neither None b e = (refl, e)
 neither (Some n) b e = let z : ◌≡◌ {A = ℕ} 0 1 = cc in absurd (omega arith)
+
+or_none : {X : Type 0} (a : Option X) → or_else a None ≡ a
+or_none None = refl
+or_none (Some n) = refl
+
+-- what two halves tell of a form makes what the pair tells: the inner's refusal comes first
+pub unless_inner : {X Y : Type 0} (a b : Option ℕ) (e : Refusal) (x : X) (r : Result Y Refusal) → Err e ≡ unless a (Ok x) → Err e ≡ unless (or_else a b) r
+unless_inner None b e x r h = let z : ◌≡◌ {A = ℕ} 0 1 = cc in absurd (omega arith)
+unless_inner (Some n) b e x r h = let z : e ≡ plain n = cc in ap Err z
+
+module _ {G H : Type 0} (a : Option ℕ) (b : G → Option ℕ) (g g' : G) where
+  pub unless_outer : {Y : Type 0} (e : Refusal) (y : H) (r : Result Y Refusal) → Ok g ≡ unless a (Ok g') → Err e ≡ unless (b g) (Ok y) → Err e ≡ unless (or_else a (b g')) r
+  unless_outer e y r h k =
+      let p = unless_ok a (Ok g') g h in
+      let q : g ≡ g' = let u = p.1 in cc in
+      unless_inner (b g) None e y r k ∙ ap (λ v. unless v r) (or_none (b g) ∙ ap b q ∙ sym (ap (λ v. or_else v (b g')) p.0))
+
+  pub unless_both : (y y' : H) → Ok g ≡ unless a (Ok g') → Ok y ≡ unless (b g) (Ok y') → Ok g ≡ unless (or_else a (b g')) (Ok g')
+  unless_both y y' h k =
+      let p = unless_ok a (Ok g') g h in
+      let q : g ≡ g' = let u = p.1 in cc in
+      let n : or_else a (b g') ≡ None = ap (λ v. or_else v (b g')) p.0 ∙ sym (ap b q) ∙ (unless_ok (b g) (Ok y') y k).0 in
+      p.1 ∙ sym (ap (λ v. unless v (Ok g')) n)
 
 cases_le : (m n : ℕ) → (m ≤ n) ⊎ (n < m)
 cases_le m n = ⊎_elim (λ h. inr h) (λ h. inl h) (cases_lt n m)
@@ -438,3 +463,21 @@ module _ {F G H : Type 0} (bF : F → ℕ) (bG : G → ℕ) (bH : H → ℕ) (o 
     whole = λ f x r e y. whole f r x e y;
     passing = λ f k x r t e y. passing f r k x t e y;
   }
+
+-- the element at a number, in two lists one after the other
+pub at_left : {X : Type 0} (xs ys : List X) (k : ℕ) → k < length xs → at (xs ++ ys) k ≡ at xs k
+at_left [] ys k h = absurd (omega arith)
+at_left (x ∷ xs) ys zero h = refl
+at_left (x ∷ xs) ys (suc k) h = at_left xs ys k (omega arith)
+
+pub at_right : {X : Type 0} (xs ys : List X) (k : ℕ) → length xs ≤ k → at (xs ++ ys) k ≡ at ys (k - length xs)
+at_right [] ys k h = let e : k ≡ k - 0 = omega arith in ap (at ys) e
+at_right (x ∷ xs) ys zero h = absurd (omega arith)
+at_right (x ∷ xs) ys (suc k) h =
+    let e : k - length xs ≡ suc k - suc (length xs) = omega arith in
+    at_right xs ys k (omega arith) ∙ ap (at ys) e
+
+-- the counts of two lists, added
+pub counted_sum : {X : Type 0} (xs ys : List X) (m n : ℕ) (r : Option ℕ) → m ≡ length xs → n ≡ length ys → SomeIff r (m + n < 2 ^ 64) (m + n) → Counted (length (xs ++ ys)) r
+counted_sum xs ys m n None p q h = omega (arith, length-append xs ys)
+counted_sum xs ys m n (Some k) p q h = omega (arith, length-append xs ys)

@@ -14,11 +14,22 @@ pub only_if_ok : {X : Type 0} (b : Bool) (n : ℕ) (r : Result X Refusal) (x : X
 only_if_ok true n r x e = (refl, e)
 only_if_ok false n r x e = let z : ◌≡◌ {A = ℕ} 0 1 = cc in absurd (omega arith)
 
+-- nothing refuses, so no refusal came
+pub never_refused : {X : Type 0} (o : Option ℕ) (b : Bool) (n : ℕ) (x : X) (r : Result X Fault) (e : Fault) → o ≡ None → b ≡ true → told r ≡ unless o (only_if b n (Ok x)) → r ≡ Err e → ⊥
+never_refused None true n x r e o b w q = let z : ◌≡◌ {A = ℕ} 0 1 = cc in omega arith
+never_refused None false n x r e o b w q = let z : ◌≡◌ {A = ℕ} 0 1 = cc in omega arith
+never_refused (Some k) b n x r e o d w q = let z : ◌≡◌ {A = ℕ} 0 1 = cc in omega arith
+
 -- both work buffers are long enough
 pub rooms : {X : Type 0} (w s : ℕ) (x : X) → Ok x ≡ only_if (roomy w s) 14 (Ok x) → (4096 ≤ w) × (4096 ≤ s)
 rooms w s x e =
     let p = and_parts (leb 4096 w) (leb 4096 s) (only_if_ok (roomy w s) 14 (Ok x) x e).0 in
     (leb-true 4096 w p.0, leb-true 4096 s p.1)
+
+-- no room, and so the refusal with 14
+pub no_room : {X : Type 0} (b : Bool) (x : X) (r : Result X Fault) (e : Fault) → told r ≡ only_if b 14 (Ok x) → r ≡ Err e → (b ≡ false) × (refusal e ≡ plain 14)
+no_room true x r e w q = let z : ◌≡◌ {A = ℕ} 0 1 = cc in absurd (omega arith)
+no_room false x r e w q = (refl, cc)
 
 -- the form is taken and the buffers are long enough, so the count n is answered, with what is in front
 pub in_place : (o : Option ℕ) (b : Bool) (m n : ℕ) (result behind : List ℕ)

@@ -57,6 +57,9 @@ module _ {F G : Type 0} (bF : F → ℕ) (t : Stage F G) (f : F) (r : t.refusal 
   pub sized : (k : ℕ) → k ≤ length t.singles → size_answer t f k ≡ Ok (t.size f k)
   sized k h = let b : leb k (length t.singles) ≡ true = le-leb k _ h in rw (r, b)
 
+  pub unsized : (k : ℕ) → length t.singles < k → size_answer t f k ≡ Err (plain 13)
+  unsized k h = let b : leb k (length t.singles) ≡ false = lt-leb k _ h in rw (r, b)
+
   module _ (a b : ℕ) (c : Bool) (w w' : List ℕ) (sc : ℕ) (q : Result ℕ Fault) where
     abbrev x : List ℕ
     x = take (t.size f a) w
@@ -112,3 +115,7 @@ pub moved : {F G : Type 0} (bF : F → ℕ) (t : Stage F G) (f : F) (a a' b : �
 moved bF t f a a' b c w w₀ w' sc sc₀ q ea ew es d =
     subst (λ v. Undone bF t f v b c w w' sc q) ea
     (subst (λ v. Undone bF t f a' b c v w' sc q) ew (subst (λ v. Undone bF t f a' b c w₀ w' v q) es d))
+
+-- what one stage undoes, the same stage undoes by its other name
+pub undone_by : {F G : Type 0} (bF : F → ℕ) (t u : Stage F G) → u ≡ t → (f : F) (i j : ℕ) (checks : Bool) (before behind : List ℕ) (scratch : ℕ) (r : Result ℕ Fault) → Undone bF t f i j checks before behind scratch r → Undone bF u f i j checks before behind scratch r
+undone_by bF t u e f i j checks before behind scratch r d = subst (λ v. Undone bF v f i j checks before behind scratch r) (sym e) d

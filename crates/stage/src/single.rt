@@ -40,7 +40,8 @@ pub trait SingleCodec {
     ) -> Result<usize, Fault>
         ensures { SingleDecoded Self.Decoded.Representation.weight Self.Encoded.Representation.weight (coding self.now) form.now buf.old buf.new (length scratch.old) result };
 
-    // Whether the encoded in the first bytes of buf passes the test.
+    // Whether the encoded in the first bytes of buf passes the test. There is no body for the codecs whose test always passes:
+    // here it could not be known of their coding.
     fn test(&self, form: &Self::Decoded, buf: &[u8]) -> Result<bool, Fault>
         ensures { told result ≡ test_answer Self.Decoded.Representation.weight Self.Encoded.Representation.weight (coding self.now) form.now buf.now };
 

@@ -1,5 +1,5 @@
 // Bytes in lower-case hexadecimal, with `-` for no bytes.
-// The crate `hex` reads upper-case digits too, and writes to a text of its own, so the digits stand here.
+// The digits stand here, since the crate `hex` reads upper-case ones too.
 ghost use Rattle.std.specs.Prelude.{◌≡◌, ◌<◌, ◌++◌, is_ok, IfOk, if◌then◌else◌, vec_items};
 ghost use Rattle.std.specs.Option.{option_map};
 ghost use Rattle.text.specs.Hex.{hex_digit, hex_value, byte_of, hex_bytes, hex_of, hex_parsed, ReadsBack, OnlyPrinted};
@@ -52,7 +52,8 @@ pub fn push_hex(out: &mut Vec<u8>, bytes: &[u8]) -> Result<(), AllocError>
     Ok(())
 }
 
-// The bytes that pairs of digits write.
+// The bytes that pairs of digits write. By a slice pattern, as the definition goes: `chunks_exact` would take each pair apart by
+// index and leave a last digit to be looked for.
 fn pairs(heap: Global, word: &[u8]) -> Result<Option<Vec<u8>>, AllocError>
     ensures { IfOk result (λ o. option_map vec_items o ≡ hex_bytes word.now) }
 {

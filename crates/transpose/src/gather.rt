@@ -11,7 +11,8 @@ use form::array_form::Form;
 use form::fault::Fault;
 use stage::room::room;
 
-// How an array of the form `by` is made of the elements of one of the form `of`: axis a of the latter is axis order[a] of the former.
+// How an array of the form `by` is made of the elements of one of the form `of`: axis a of the latter is axis order[a] of the
+// former.
 #[derive(Clone, Copy)]
 pub(crate) struct Gathering {
     pub(crate) of: Form,
@@ -31,7 +32,7 @@ impl Gathering {
     {
         let mut at = [0; 4];
         let mut rest = element;
-        // By index, since what is written through a zip of iter_mut is not known once the loop ends.
+        // By index: a zip of iter_mut was tried, and what is written through it is not known once the loop ends.
         for a in (0..self.of.dims).rev() {
             at[a] = rest % self.by.lengths[a];
             rest /= self.by.lengths[a];
@@ -66,7 +67,7 @@ impl Gathering {
         ensures { target.new ≡ gathered_by self.now source.now }
     {
         let size = self.of.data_type.size();
-        // By index, since what is written through chunks_exact_mut is not known once the loop ends.
+        // By index: chunks_exact_mut was tried, and what is written through it is not known once the loop ends.
         for e in 0..self.of.elements() {
             let from = self.seat(e) * size;
             let to = e * size;

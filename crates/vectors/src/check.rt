@@ -1,4 +1,4 @@
-// Runs a vector through the library.
+// Runs a vector through the library. The buffers and the stages are lent one by one: the ones serve every vector, the others one.
 use crate::kind::Kind;
 use crate::vector::Vector;
 use buffers::Buffers;
@@ -28,25 +28,22 @@ fn left(buffers: &Buffers, count: Result<usize, Fault>, bytes: &[u8]) -> bool {
     matches!(count, Ok(n) if buffers.output.as_slice().get(..n) == Some(bytes))
 }
 
+// The shuffle of elements of a size, which a vector of it has to say.
+fn shuffle(size: Option<usize>) -> Result<ByteCodec, Fault> {
+    let codec = ShuffleCodec::new(size.ok_or(Fault::ElementSize)?)?;
+    Ok(byte_codec::shuffle(codec))
+}
+
 // The stages of a kind.
-fn stages_of(kind: Kind, size: usize) -> Result<Stages, Fault> {
+fn stages_of(kind: Kind, size: Option<usize>) -> Result<Stages, Fault> {
     let checksum = byte_codec::fletcher32(Fletcher32Codec::new());
     match kind {
-        Kind::Shuffle | Kind::ShuffleRefuse => {
-            let shuffle = byte_codec::shuffle(ShuffleCodec::new(size)?);
-            Ok(Pair::new(ByteCodec::empty(), shuffle))
-        }
+        Kind::Shuffle | Kind::ShuffleRefuse => Ok(Pair::new(ByteCodec::empty(), shuffle(size)?)),
         Kind::ChecksumFunction | Kind::ChecksumFile | Kind::ChecksumFileBad => {
             Ok(Pair::new(ByteCodec::empty(), checksum))
         }
-        Kind::ShuffleChecksum => {
-            let shuffle = byte_codec::shuffle(ShuffleCodec::new(size)?);
-            Ok(Pair::new(checksum, shuffle))
-        }
-        Kind::ChecksumShuffle => {
-            let shuffle = byte_codec::shuffle(ShuffleCodec::new(size)?);
-            Ok(Pair::new(shuffle, checksum))
-        }
+        Kind::ShuffleChecksum => Ok(Pair::new(checksum, shuffle(size)?)),
+        Kind::ChecksumShuffle => Ok(Pair::new(shuffle(size)?, checksum)),
     }
 }
 
@@ -71,9 +68,7 @@ fn stored_checksum(buffers: &mut Buffers, stages: &Stages, input: &[u8], bytes: 
 // Whether the library does what the peer does.
 pub fn agrees(buffers: &mut Buffers, vector: &Vector) -> bool {
     let input = vector.input.as_slice();
-    // a shuffle refuses the size 0
-    let size = vector.size.unwrap_or(0);
-    let Ok(stages) = stages_of(vector.kind, size) else {
+    let Ok(stages) = stages_of(vector.kind, vector.size) else {
         return false;
     };
     match (vector.kind, &vector.output) {

@@ -1,6 +1,6 @@
 use Rattle.std.proofs.Common.{◌≡◌, take, drop}
 use Rattle.chunkctl.specs.Seats.{Seated, names_refusal}
-use Rattle.chunkctl.proofs.draft.built.Given as goal
+use Rattle.chunkctl.proofs.seats.built.Given as goal
 
 abbrev pub invariant-loop-at : goal.invariant-loop-at
 invariant-loop-at l =

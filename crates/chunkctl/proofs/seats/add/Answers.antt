@@ -4,7 +4,7 @@ use Rattle.form.specs.Answers.{Answers}
 use Rattle.byte_codecs.specs.Chosen.{ByteCodec}
 use Rattle.chunkctl.specs.declared.command.StageName.{StageName}
 use Rattle.chunkctl.specs.Seats.{Named, name_refusal, add_refusal}
-use Rattle.chunkctl.proofs.draft.add.Goals as goal
+use Rattle.chunkctl.proofs.seats.add.Goals as goal
 
 -- a stage that its name allows is added while a seat is free
 added : (at : ℕ) (name : StageName) (c : ByteCodec) (P : Unit {0} → Type 0) → at < 4 → Answers (name_refusal name) (Named name) (Ok c) → (Named name c → P tt) → Answers (add_refusal at name) P (Ok tt)

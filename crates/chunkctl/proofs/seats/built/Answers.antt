@@ -1,7 +1,7 @@
 use Rattle.std.proofs.Common.{sym, refl, subst}
 use Rattle.chunkctl.specs.Seats.{Seated}
 use Rattle.chunkctl.proofs.Seating.{seat_all, names_all, add_step, add_stop}
-use Rattle.chunkctl.proofs.draft.built.Goals as goal
+use Rattle.chunkctl.proofs.seats.built.Goals as goal
 
 pub returns-in_err-add : goal.returns-in_err-add
 returns-in_err-add c =

@@ -1,7 +1,7 @@
 // Up to four byte stages, named in encode order.
 ghost use Rattle.std.specs.Prelude.{◌≡◌, slice_set};
 ghost use Rattle.form.specs.Answers.{Answers};
-ghost use Rattle.byte_codecs.specs.Chosen.{ByteCodec as Chosen};
+ghost use Rattle.byte_codecs.specs.Chosen.{ByteCodec as Choice};
 ghost use Rattle.chunkctl.specs.Seats.{seats_of, Named, name_refusal, add_refusal, names_refusal, Seated};
 
 use crate::command::StageName;
@@ -26,7 +26,7 @@ fn named(name: StageName) -> Result<ByteCodec, Fault>
 
 // Gives the seat with the number to a stage.
 fn add(seats: &mut [ByteCodec; 4], at: usize, name: StageName) -> Result<(), Fault>
-    ensures { Answers (add_refusal at name) (λ _. (c : Chosen) × Named name c × (seats.new ≡ slice_set seats.old at c)) result }
+    ensures { Answers (add_refusal at name) (λ _. (c : Choice) × Named name c × (seats.new ≡ slice_set seats.old at c)) result }
 {
     if at >= seats.len() {
         return Err(Fault::NoRoom);

@@ -14,8 +14,8 @@ use trouble::{Complaint, Trouble};
 
 mod answer;
 mod command;
-mod seats;
 mod line;
+mod seats;
 mod session;
 mod trouble;
 

@@ -1,5 +1,5 @@
 -- How answers are written.
-use Rattle.std.specs.Prelude.{ℕ, ◌/◌, ◌%◌, Bool, cond, List, [], ◌∷◌, ◌++◌, take, Some, None, Ok, Err, vec_items, codes, decimal, unwrap_or, Option, Result}
+use Rattle.std.specs.Prelude.{ℕ, ◌/◌, ◌%◌, Bool, cond, List, [], ◌∷◌, ◌++◌, take, Ok, Err, vec_items, codes, decimal, unwrap_or, Option, Result}
 use Rattle.form.specs.Refusals.{fault_text}
 use Rattle.stage.specs.declared.capability.PartialDecoderCapability.{PartialDecoderCapability}
 use Rattle.text.specs.Hex.{hex_of}

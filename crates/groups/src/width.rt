@@ -1,10 +1,10 @@
 // How many bytes a number has, by the unsigned type that holds it.
 ghost use Rattle.std.specs.Prelude.{ℕ};
 ghost use Rattle.groups.specs.Groups.{Narrow};
-ghost use Rattle.std.proofs.Common.{rules};
+ghost use Rattle.std.proofs.Common.{lit≤};
 
 // A trait with one impl for each width, and no const parameter: a number would not say that it is one to eight, and
-// `Modular::new` and `Exclusive::new` ask nothing of their callers.
+// `Modular::new` and `Exclusive::new` ask nothing of their callers. `narrow` is given as a term, since others compute with it.
 pub trait Width {
     const BYTES: usize;
 
@@ -18,7 +18,7 @@ impl Width for u8 {
 
     ghost BYTES = { 1 };
 
-    ghost narrow = { Prim.search rules };
+    ghost narrow = { (lit≤ tt, lit≤ tt) };
 }
 
 impl Width for u16 {
@@ -26,7 +26,7 @@ impl Width for u16 {
 
     ghost BYTES = { 2 };
 
-    ghost narrow = { Prim.search rules };
+    ghost narrow = { (lit≤ tt, lit≤ tt) };
 }
 
 impl Width for u32 {
@@ -34,7 +34,7 @@ impl Width for u32 {
 
     ghost BYTES = { 4 };
 
-    ghost narrow = { Prim.search rules };
+    ghost narrow = { (lit≤ tt, lit≤ tt) };
 }
 
 impl Width for u64 {
@@ -42,5 +42,5 @@ impl Width for u64 {
 
     ghost BYTES = { 8 };
 
-    ghost narrow = { Prim.search rules };
+    ghost narrow = { (lit≤ tt, lit≤ tt) };
 }

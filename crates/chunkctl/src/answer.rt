@@ -15,7 +15,7 @@ pub enum Answer {
     Commands,
     // how many elements and bytes a form has
     Form(usize, usize),
-    // so many bytes at the front of the output buffer
+    // so many bytes at the front of the output buffer, which an answer does not borrow: the session goes on
     Output(usize),
     Bytes(Vec<u8>),
     Singles(Vec<Single>),
@@ -27,6 +27,7 @@ pub enum Answer {
 #[derive(Clone, Copy)]
 pub struct Single(pub PartialDecoderCapability);
 
+// Two words; what bool prints is others.
 fn yes_no(yes: bool) -> &'static str
     ensures { result.now ≡ yes_no yes }
 {
@@ -45,8 +46,9 @@ impl fmt::Display for Single {
 
 const COMMANDS: &str = " help out work peek form stages singles lengths encode undo sum data";
 
-// What writes takes the allocator, if it allocates, and the text, as std's functions do; a struct of the two would be taken apart
-// again at each call of them.
+// The line of an answer is pushed part by part, and is not one Display: it was to be no slower than before, and through a
+// formatter the digits of a large buffer took eight times as long. What pushes takes the allocator, if it allocates, and the
+// text, as std's functions do; a struct of the two would be taken apart again at each call of them.
 fn push_text(out: &mut Vec<u8>, text: &str) -> Result<(), AllocError>
     ensures { OnOk result (out.new.items ≡ out.old.items ++ text.now) }
 {
@@ -89,8 +91,7 @@ fn front(bytes: &[u8], n: usize) -> &[u8]
     bytes.get(..n).unwrap_or(bytes)
 }
 
-// A blank and the value of an answer that has one; `output` is the output buffer. The line is pushed and not one Display: it was
-// to be no slower than before, and through a formatter the digits of a large buffer took eight times as long.
+// A blank and the value of an answer that has one; `output` is the output buffer.
 fn push_value(
     heap: Global,
     out: &mut Vec<u8>,

@@ -14,7 +14,7 @@ use shuffle::shuffle_codec::ShuffleCodec;
 // Four seats: the first stage in encode order has the innermost, and empty codecs have the outermost.
 pub type Stages = Pair<ByteCodec, Pair<ByteCodec, Pair<ByteCodec, ByteCodec>>>;
 
-// The codec of the stage with the name.
+// The codec of the stage with the name. A function and no TryFrom, since its name says more at the one call.
 fn named(name: StageName) -> Result<ByteCodec, Fault>
     ensures { Answers (name_refusal name) (Named name) result }
 {

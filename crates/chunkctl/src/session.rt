@@ -35,6 +35,7 @@ fn buffer(heap: Global, size: usize, value: u8) -> Result<Vec<u8>, Trouble>
     Ok(vec![in heap; value; size]?)
 }
 
+// What a command needs of the session is lent to it part by part, so that its parameters say what it can change.
 fn set_output(buffers: &mut Buffers, heap: Global, size: usize) -> Result<Answer, Trouble>
     ensures { elim result [ Ok a ↦ buffers.new.output.items ≡ replicate size 238 | Err t ↦ IsError t × (buffers.new ≡ buffers.old) ] }
 {
@@ -56,6 +57,7 @@ fn set_work(
     Ok(Answer::Done)
 }
 
+// The code is a number, as in the command: the library refuses one that no type has, after the shape.
 fn set_form(
     form: &mut Option<Form>,
     shape: &[usize],

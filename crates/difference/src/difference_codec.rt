@@ -18,8 +18,8 @@ use stage::codec::Representation;
 use stage::room::{enough, room};
 use stage::single::SingleCodec;
 
-// Turns an array in one of the directions, in the group of its data type. Each arm calls the one loop at another type: through a
-// `dyn Group` each element would cost a call.
+// Turns an array in one of the directions, in the group of its data type. Each arm calls the one loop at another type; with a
+// `dyn Group` the same match would choose the group.
 fn turn_array<D: Direction>(form: &Form, array: &mut [u8])
     requires { length array.old ≡ array_bytes form.now }
     ensures { let o = group_of form.now.data_type in array.new ≡ on_elements (first_stays (D.after o)) o.width (element_count form.now) array.old }

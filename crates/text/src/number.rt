@@ -15,7 +15,8 @@ pub fn parse_number(word: &[u8]) -> Option<u64>
     u64::from_str_radix(str::from_utf8(word).ok()?, 10).ok()
 }
 
-// Adds the digits of a number; without memory for that it adds nothing.
+// Adds the digits of a number; without memory for that it adds nothing, which is why `format!` makes them apart first. The
+// allocator and the text come one by one, as in std's functions.
 pub fn push_number(heap: Global, out: &mut Vec<u8>, n: u64) -> Result<(), AllocError>
     ensures { out.new.items ≡ (if is_ok result then out.old.items ++ decimal n else out.old.items) }
 {

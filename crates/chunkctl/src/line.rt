@@ -1,7 +1,7 @@
 // Lines of any bytes from a buffered input.
 ghost use Rattle.std.specs.Prelude.{◌≡◌, ◌-◌, ◌^◌};
 ghost use Rattle.std.specs.Iterator.{at_most};
-ghost use Rattle.chunkctl.specs.Lines.{Grown};
+ghost use Rattle.chunkctl.specs.Lines.{Grown, silent};
 
 use crate::trouble::Complaint;
 use std::alloc::Global;
@@ -25,7 +25,7 @@ fn keep(line: Result<Vec<u8>, Complaint>, part: &[u8]) -> Result<Vec<u8>, Compla
 }
 
 // What a line has so far.
-#[derive(Clone, Copy, PartialEq, Eq)]
+#[derive(Clone, Copy)]
 enum Look {
     Nothing,
     Blanks,
@@ -46,6 +46,13 @@ impl Look {
             },
             (Look::Comment | Look::Words, _) => self,
         }
+    }
+
+    // Whether a line that ends here is passed over.
+    fn silent(self) -> bool
+        ensures { result ≡ silent self }
+    {
+        !matches!(self, Look::Words)
     }
 }
 
@@ -69,7 +76,7 @@ fn next_line<R: BufRead>(
         let ended = rest.is_some();
         let used = part.len() + usize::from(ended);
         reader.consume(used);
-        if ended && look == Look::Words {
+        if ended && !look.silent() {
             return Ok(Some(line));
         }
         if ended {
@@ -77,7 +84,7 @@ fn next_line<R: BufRead>(
             look = Look::Nothing;
         }
     }
-    Ok((look == Look::Words).then_some(line))
+    Ok((!look.silent()).then_some(line))
 }
 
 // The lines of an input that are neither blank nor comments.

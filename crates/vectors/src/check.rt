@@ -1,4 +1,5 @@
-// Runs a vector through the library. The buffers and the stages are lent one by one: the ones serve every vector, the others one.
+// Runs a vector through the library. The buffers and the stages are lent one by one: the ones serve every vector, the others
+// one.
 use crate::kind::Kind;
 use crate::vector::Vector;
 use buffers::Buffers;

@@ -1,11 +1,11 @@
 -- What the loop over the elements of an array keeps.
-use Rattle.std.proofs.Common.{◌≡◌, ℕ, ◌+◌, ◌-◌, ◌*◌, ◌/◌, ◌%◌, ◌<◌, ◌≤◌, List, ◌∷◌, ◌++◌, length, take, drop, sym, ap, ◌∙◌, subst, suc-mul, one-mul, add-one, arith}
-use Rattle.std.proofs.lemmas.Nat.{mul-le, le-div}
+use Rattle.std.proofs.Common.{◌≡◌, ℕ, ◌+◌, ◌-◌, ◌*◌, ◌/◌, ◌%◌, ◌<◌, ◌≤◌, List, ◌∷◌, ◌++◌, length, take, drop, sym, ap, ◌∙◌, subst, one-mul, arith}
+use Rattle.std.proofs.lemmas.Nat.{le-div}
 use Rattle.std.proofs.lemmas.Nat.Gcd.{le_of_dvd, dvd_of_mod-eq-zero}
 use Rattle.std.proofs.lemmas.List.{append_assoc, drop-drop, length-drop, length-take-le}
-use Rattle.std.proofs.lemmas.Slice.{take-put_mid, drop-put_mid}
 use borrow.Rule.Slice.PartMut.{put_mid}
 use Rattle.stage.specs.Elements.{little, digits, elements, bytes}
+use Rattle.stage.proofs.Elements.{next_is, width_is, element_inside, element_written}
 use Rattle.difference.specs.Difference.{first_stays}
 use Rattle.difference.specs.ElementBytes.{elements_more, length_digits}
 
@@ -19,9 +19,6 @@ some_whole l w u e p q h =
     let m : l % w ≡ 0 = subst (λ k. l % k ≡ 0) (sym e) h in
     let k : w ≤ l = le_of_dvd q (dvd_of_mod-eq-zero w m) in
     (le-div 1 l w (omega arith) (omega arith), k)
-
-next_is : (e w : ℕ) → (e + 1) * w ≡ e * w + w
-next_is e w = ap (λ k. k * w) (add-one e) ∙ suc-mul e w
 
 -- the elements from one on
 elements_from : (w n e : ℕ) (x : List ℕ) → e < n → elements w (n - e) (drop (e * w) x) ≡ little (take w (drop (e * w) x)) ∷ elements w (n - (e + 1)) (drop ((e + 1) * w) x)
@@ -45,20 +42,16 @@ module _ (w : ℕ) (F : ℕ → List ℕ → List ℕ) (n : ℕ) where
       → ys ≡ digits (length (take ((e + 1) * w - e * w) (drop (e * w) x))) y
       → Turned w F n all (e + 1) q (put_mid (e * w) ((e + 1) * w - e * w) x ys)
   turned_more all e p v y q x ys h l g t s d =
-      let m = next_is e w in
-      let k : (e + 1) * w - e * w ≡ w = omega arith in
-      let i : e * w + w ≤ length x = omega (arith, mul-le (e + 1) w n w (omega arith) (omega arith)) in
+      let k = width_is e w in
+      let i = element_inside e w n x h l in
       let j : length (take w (drop (e * w) x)) ≡ w = length-take-le w (drop (e * w) x) (simp length-drop (omega arith)) in
       let z : ys ≡ digits w y = d ∙ ap (λ a. digits (length (take a (drop (e * w) x))) y) k ∙ ap (λ a. digits a y) j in
-      let b : length ys ≡ w = ap length z ∙ length_digits w y in
-      let front : take ((e + 1) * w) (put_mid (e * w) ((e + 1) * w - e * w) x ys) ≡ take (e * w) x ++ digits w y =
-      take-put_mid (e * w) ((e + 1) * w - e * w) x ys ((e + 1) * w) (omega arith) (omega arith) ∙ ap (λ r. take (e * w) x ++ r) z in
-      let behind : drop ((e + 1) * w) (put_mid (e * w) ((e + 1) * w - e * w) x ys) ≡ drop ((e + 1) * w) x =
-      drop-put_mid (e * w) ((e + 1) * w - e * w) x ys ((e + 1) * w) (omega arith) (omega arith) (omega arith) in
+      let put = element_written e w n x ys h l (ap length z ∙ length_digits w y) in
+      let front : take ((e + 1) * w) (put_mid (e * w) ((e + 1) * w - e * w) x ys) ≡ take (e * w) x ++ digits w y = put.front ∙ ap (λ r. take (e * w) x ++ r) z in
       let vs : List ℕ = elements w (n - (e + 1)) (drop ((e + 1) * w) x) in
       let r : F p (elements w (n - e) (drop (e * w) x)) ≡ y ∷ F q vs =
       ap (F p) (elements_from w n e x h ∙ ap (λ u. u ∷ vs) (ap (λ a. little (take a (drop (e * w) x))) (sym k) ∙ sym t)) ∙ s vs in
-      ap (λ a. take ((e + 1) * w) (put_mid (e * w) ((e + 1) * w - e * w) x ys) ++ bytes w (F q (elements w (n - (e + 1)) a))) behind
+      ap (λ a. take ((e + 1) * w) (put_mid (e * w) ((e + 1) * w - e * w) x ys) ++ bytes w (F q (elements w (n - (e + 1)) a))) put.behind
       ∙ ap (λ a. a ++ bytes w (F q vs)) front
       ∙ append_assoc (take (e * w) x) (digits w y) (bytes w (F q vs))
       ∙ ap (λ us. take (e * w) x ++ bytes w us) (sym r)

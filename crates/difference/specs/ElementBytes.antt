@@ -3,10 +3,10 @@ use Rattle.std.specs.Prelude.{◌≡◌, ℕ, zero, suc, ◌+◌, ◌-◌, ◌*�
 use Rattle.std.specs.List.{AllByRecursion}
 use Rattle.std.proofs.Common.{sym, ap, subst, ◌∙◌, suc-mul, arith}
 use Rattle.std.proofs.Math.Nat.{pow-succ'}
-use Rattle.std.proofs.lemmas.List.{length-append, length-take-le, length-drop, take_at, drop_at, take-append-drop, nil_from_length, get_or-drop, take-take, drop-take}
+use Rattle.std.proofs.lemmas.List.{length-append, length-take-le, length-drop, take_at, drop_at, take-append-drop, nil_from_length, take-take, drop-take}
 use Rattle.stage.specs.Stage.{Bytes}
 use Rattle.stage.specs.Elements.{little, digits, elements, bytes}
-use Rattle.stage.proofs.Bytewise.{Bytes-append, Bytes-take}
+use Rattle.stage.proofs.Bytewise.{Bytes-append, Bytes-take, Bytes-drop}
 
 -- each is below m
 abbrev pub Below : ℕ → List ℕ → Type 0
@@ -14,11 +14,6 @@ Below m = AllByRecursion (λ v. v < m)
 
 Bytes_tail : (d : ℕ) (ds : List ℕ) → Bytes (d ∷ ds) → Bytes ds
 Bytes_tail d ds h k u = h (suc k) (omega arith)
-
-Bytes-drop : (n : ℕ) (x : List ℕ) → n ≤ length x → Bytes x → Bytes (drop n x)
-Bytes-drop n x h hx k u =
-    let l = length-drop n x in
-    rw (get_or-drop n x k 0) (hx (n + k) (omega arith))
 
 -- one more byte on the low side
 pub little_fits : (v d m : ℕ) → v < 256 ^ m → d < 256 → d + 256 * v < 256 ^ suc m

@@ -1,7 +1,7 @@
 -- Bytes of a list's parts, and the lengths that are taken.
-use Rattle.std.proofs.Common.{◌≡◌, ℕ, ◌-◌, ◌<◌, ◌≤◌, Bool, true, false, cond, leb, List, ◌++◌, length, get_or, take, Some, None, Option, refl, ⊎_elim, arith}
+use Rattle.std.proofs.Common.{◌≡◌, ℕ, ◌+◌, ◌-◌, ◌<◌, ◌≤◌, Bool, true, false, cond, leb, List, ◌++◌, length, get_or, take, drop, Some, None, Option, refl, ⊎_elim, arith}
 use Rattle.std.proofs.lemmas.Bool.{leb-true, cases_lt}
-use Rattle.std.proofs.lemmas.List.{get_or_append_left, get_or-append_right, length-take-le, get_or-take, get_or_past}
+use Rattle.std.proofs.lemmas.List.{get_or_append_left, get_or-append_right, length-take-le, length-drop, get_or-take, get_or-drop, get_or_past}
 use Rattle.stage.specs.Stage.{Bytes, too_long}
 
 -- where a test refuses nothing, it came out true, and what stands behind it refuses nothing
@@ -29,3 +29,8 @@ Bytes-take n x h hx k u =
     let l = length-take-le n x h in
     let v : k < n = omega arith in
     rw (get_or-take n x k 0 v) (hx k (omega arith))
+
+pub Bytes-drop : (n : ℕ) (x : List ℕ) → n ≤ length x → Bytes x → Bytes (drop n x)
+Bytes-drop n x h hx k u =
+    let l = length-drop n x in
+    rw (get_or-drop n x k 0) (hx (n + k) (omega arith))

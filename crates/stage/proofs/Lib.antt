@@ -1,4 +1,5 @@
 pub mod Bytewise
+pub mod Elements
 pub mod Gathers
 pub mod OneSingle
 pub mod Refusing

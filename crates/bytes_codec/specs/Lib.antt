@@ -1,0 +1,3 @@
+pub mod ByteOrder
+pub mod Swapped
+pub mod Laws

@@ -1,0 +1,4 @@
+// The bytes codec.
+#![tactic(auto)]
+
+pub mod bytes_codec;

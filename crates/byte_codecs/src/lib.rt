@@ -1,5 +1,4 @@
-// Byte codecs chosen at run time, and worked figures.
+// Byte codecs chosen at run time.
 #![tactic(auto)]
 
 pub mod byte_codec;
-pub mod figures;

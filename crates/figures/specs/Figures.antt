@@ -1,0 +1,97 @@
+-- Worked figures, beside what the definitions give.
+use Rattle.std.specs.Prelude.{◌≡◌, ℕ, List, [], ◌∷◌, Some, None, Option, refl}
+use Rattle.form.specs.declared.array_form.Form.{Form}
+use Rattle.form.specs.declared.data_type.DataType.TheVariants.{UInt8, UInt16, Float32}
+use Rattle.form.specs.Forms.{form_refusal}
+use Rattle.shuffle.specs.Shuffle.{shuffling}
+use Rattle.fletcher32.specs.Fletcher32.{fletcher32, checksumming}
+use Rattle.transpose.specs.Transpose.{transposing}
+use Rattle.difference.specs.Difference.{differencing}
+use Rattle.bytes_codec.specs.declared.bytes_codec.Endianness.TheVariants.{Big}
+use Rattle.bytes_codec.specs.ByteOrder.{byte_ordering}
+
+abbrev two_words : List ℕ
+two_words = 0x00 ∷ 0x01 ∷ 0x00 ∷ 0x02 ∷ []
+
+abbrev three_elements : List ℕ
+three_elements = 0x01 ∷ 0x02 ∷ 0x03 ∷ 0x04 ∷ 0x05 ∷ 0x06 ∷ []
+
+abbrev by_columns : List ℕ
+by_columns = 0x01 ∷ 0x03 ∷ 0x05 ∷ 0x02 ∷ 0x04 ∷ 0x06 ∷ []
+
+-- arrays of three uint8, of two float32 and of 2 by 3 uint16
+abbrev three_bytes : Form
+three_bytes = record { lengths = 3 ∷ 1 ∷ 1 ∷ 1 ∷ []; dims = 1; data_type = UInt8; fill = 0 ∷ 0 ∷ 0 ∷ 0 ∷ 0 ∷ 0 ∷ 0 ∷ 0 ∷ []; ok = refl }
+
+abbrev two_floats : Form
+two_floats = record { lengths = 2 ∷ 1 ∷ 1 ∷ 1 ∷ []; dims = 1; data_type = Float32; fill = 0 ∷ 0 ∷ 0 ∷ 0 ∷ 0 ∷ 0 ∷ 0 ∷ 0 ∷ []; ok = refl }
+
+abbrev two_by_three : Form
+two_by_three = record { lengths = 2 ∷ 3 ∷ 1 ∷ 1 ∷ []; dims = 2; data_type = UInt16; fill = 0 ∷ 0 ∷ 0 ∷ 0 ∷ 0 ∷ 0 ∷ 0 ∷ 0 ∷ []; ok = refl }
+
+-- the two float32 1.0 and 1.5
+abbrev floats : List ℕ
+floats = 0x00 ∷ 0x00 ∷ 0x80 ∷ 0x3F ∷ 0x00 ∷ 0x00 ∷ 0xC0 ∷ 0x3F ∷ []
+
+-- the order 1, 0 of two axes
+abbrev swapped_axes : List ℕ
+swapped_axes = 1 ∷ 0 ∷ 0 ∷ 0 ∷ []
+
+-- the uint16 1 to 6 by rows, and transposed
+abbrev by_rows : List ℕ
+by_rows = 1 ∷ 0 ∷ 2 ∷ 0 ∷ 3 ∷ 0 ∷ 4 ∷ 0 ∷ 5 ∷ 0 ∷ 6 ∷ 0 ∷ []
+
+abbrev transposed : List ℕ
+transposed = 1 ∷ 0 ∷ 4 ∷ 0 ∷ 2 ∷ 0 ∷ 5 ∷ 0 ∷ 3 ∷ 0 ∷ 6 ∷ 0 ∷ []
+
+abbrev most_significant_first : List ℕ
+most_significant_first = 0 ∷ 1 ∷ 0 ∷ 4 ∷ 0 ∷ 2 ∷ 0 ∷ 5 ∷ 0 ∷ 3 ∷ 0 ∷ 6 ∷ []
+
+-- checksums of no bytes, of two words, of a word of ones and of three bytes; a stored checksum; a shuffle by 2 and back; differences
+-- of integers, back, and of floats; a transposition, back, and its lengths; big, and back
+abbrev computed : List (List ℕ)
+computed =
+    (fletcher32 [] ∷ fletcher32 two_words ∷ fletcher32 (0xFF ∷ 0xFF ∷ []) ∷ fletcher32 (0x01 ∷ 0x00 ∷ 0x02 ∷ []) ∷ [])
+    ∷ checksumming.encoded 4 two_words
+    ∷ (shuffling 2).encoded 6 three_elements
+    ∷ (shuffling 2).decoded 6 by_columns
+    ∷ differencing.encoded three_bytes (5 ∷ 3 ∷ 10 ∷ [])
+    ∷ differencing.decoded three_bytes (5 ∷ 254 ∷ 7 ∷ [])
+    ∷ differencing.encoded two_floats floats
+    ∷ (transposing swapped_axes 2).encoded two_by_three by_rows
+    ∷ (transposing swapped_axes 2).decoded two_by_three transposed
+    ∷ ((transposing swapped_axes 2).coded two_by_three).lengths
+    ∷ (byte_ordering (Some Big)).encoded two_by_three transposed
+    ∷ (byte_ordering (Some Big)).decoded two_by_three most_significant_first
+    ∷ []
+
+abbrev worked : List (List ℕ)
+worked =
+    (0x00000000 ∷ 0x00040003 ∷ 0xFFFFFFFF ∷ 0x04000300 ∷ [])
+    ∷ (0x00 ∷ 0x01 ∷ 0x00 ∷ 0x02 ∷ 0x03 ∷ 0x00 ∷ 0x04 ∷ 0x00 ∷ [])
+    ∷ by_columns
+    ∷ three_elements
+    ∷ (5 ∷ 254 ∷ 7 ∷ [])
+    ∷ (5 ∷ 3 ∷ 10 ∷ [])
+    ∷ (0x00 ∷ 0x00 ∷ 0x80 ∷ 0x3F ∷ 0x00 ∷ 0x00 ∷ 0x40 ∷ 0x00 ∷ [])
+    ∷ transposed
+    ∷ by_rows
+    ∷ (3 ∷ 2 ∷ 1 ∷ 1 ∷ [])
+    ∷ most_significant_first
+    ∷ transposed
+    ∷ []
+
+-- what 4,096 elements of uint8 and one more are refused with, and 4,092 bytes under fletcher32 and one more
+abbrev refusals : List (Option ℕ)
+refusals =
+    form_refusal (4096 ∷ []) 1 (0 ∷ [])
+    ∷ form_refusal (4097 ∷ []) 1 (0 ∷ [])
+    ∷ checksumming.refusal 4092
+    ∷ checksumming.refusal 4093
+    ∷ []
+
+abbrev refused : List (Option ℕ)
+refused = None ∷ Some 3 ∷ None ∷ Some 12 ∷ []
+
+abbrev pub Figures : Type 0
+Figures = (computed ≡ worked) × (refusals ≡ refused)

@@ -2,6 +2,8 @@
 ghost use Rattle.std.specs.Prelude.{◌≡◌, ◌/◌, ◌%◌, ◌<◌, length, take, Ok};
 ghost use Rattle.form.specs.Refusals.{unless, only_if};
 ghost use Rattle.form.specs.Forms.{element_size};
+ghost use Rattle.stage.specs.Stage.{Unfailing};
+ghost use Rattle.stage.specs.Single.{single};
 ghost use Rattle.stage.specs.Arrays.{element_count, array_bytes};
 ghost use Rattle.stage.specs.Calls.{InPlace, roomy};
 ghost use Rattle.bytes_codec.specs.ByteOrder.{swapped, in_order, unordered, byte_ordering, Writes, Reads, Back};
@@ -103,9 +105,10 @@ impl SingleCodec for BytesCodec {
 }
 
 // What is proved of the format: which elements the bytes write, which elements are read from bytes, and that decoding gives the
-// array back.
+// array back; and that no test fails.
 pub fn byte_order_stands()
     ensures writes { Writes }
     ensures reads { Reads }
     ensures back { Back }
+    ensures unfailing { (endian : _) → Unfailing (single array_bytes (λ n. n) (byte_ordering endian)) }
 {}

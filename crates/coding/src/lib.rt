@@ -4,16 +4,25 @@
 
 ghost use Rattle.std.specs.Prelude.{◌≡◌, length};
 ghost use Rattle.form.specs.Refusals.{told};
-ghost use Rattle.stage.specs.Stage.{Laws};
+ghost use Rattle.stage.specs.Stage.{Laws, Unfailing};
+ghost use Rattle.stage.specs.Arrays.{ArrayLaws};
 ghost use Rattle.stage.specs.Calls.{encode_answer, undo_answer, written};
 
 use form::fault::Fault;
+use stage::array_to_array::ArrayToArrayCodec;
 use stage::codec::{Codec, Representation};
 use stage::room::room;
 
 // Every codec keeps the laws of a stage.
 pub fn laws_hold<C: Codec>(codec: &C)
     ensures { Laws C.Decoded.Representation.weight C.Encoded.Representation.weight (C.Codec.meaning codec.now) }
+{}
+
+// And every codec from arrays to arrays keeps the data type, the count of elements and the fill value, and is never refused with
+// 15.
+pub fn array_laws_hold<C: ArrayToArrayCodec>(codec: &C)
+    ensures kept { ArrayLaws (C.Codec.meaning codec.now) }
+    ensures unfailing { Unfailing (C.Codec.meaning codec.now) }
 {}
 
 // Encodes the input, an array or bytes of the form, into the front of the output, and answers how many bytes that are.

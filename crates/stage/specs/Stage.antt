@@ -79,3 +79,7 @@ answered (Some k) n = Err (failed k)
 -- what undoing answers: how many bytes there are then, or with checks on the first single whose test fails
 abbrev pub outcome : {F G : Type 0} → Stage F G → F → ℕ → ℕ → Bool → List ℕ → Result ℕ Refusal
 outcome s f i j checks x = answered (checked checks (failing s f i j x)) (s.size f j)
+
+-- undoing is never refused with 15
+abbrev pub Unfailing : {F G : Type 0} → Stage F G → Type 0
+Unfailing {F = F} s = (f : F) (i j : ℕ) (checks : Bool) (x : List ℕ) → outcome s f i j checks x ≡ Ok (s.size f j)

@@ -4,7 +4,7 @@ use Rattle.std.proofs.lemmas.Nat.{div_below}
 use Rattle.std.proofs.lemmas.List.{get_or-set_same, get_or-set_other}
 use Rattle.std.proofs.lemmas.Bool.{cases_eq}
 use Rattle.form.specs.Shapes.{count}
-use Rattle.stage.proofs.Gathers.{positive}
+use Rattle.form.proofs.Shapes.{positive}
 use Rattle.axes.specs.Axes.{offset, index}
 use Rattle.axes.proofs.Numbers.{index_last, index_rest, offset_below, count_le}
 
@@ -20,7 +20,7 @@ peeled_at {lens} {r} {n} {at} {rest} {a} h p = let e : a ≡ suc (a - 1) = omega
 
 -- the axis before a is not empty
 peeled_full : {lens : ℕ → ℕ} {r n : ℕ} {at : ℕ → ℕ} {rest a : ℕ} → 0 < a → Peeled lens r n at rest a → 0 < lens (a - 1)
-peeled_full {lens} {r} {n} {at} {rest} {a} h p = positive (lens (a - 1)) (count lens (a - 1)) rest (peeled_at h p).within
+peeled_full {lens} {r} {n} {at} {rest} {a} h p = let w = (peeled_at h p).within in (positive (count lens (a - 1)) (lens (a - 1)) (omega arith)).1
 
 -- one axis more
 pub peeled_more : {lens : ℕ → ℕ} {r n rest a : ℕ} (at : List ℕ) → r ≤ 4 → length at ≡ 4 → 0 < a → a ≤ r → Peeled lens r n (λ b. get_or at b 0) rest a

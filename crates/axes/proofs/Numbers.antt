@@ -1,10 +1,11 @@
 -- An index and a number give each other, and a permuted array has as many elements.
-use Rattle.std.proofs.Common.{◌≡◌, ℕ, zero, suc, ◌+◌, ◌*◌, ◌/◌, ◌%◌, ◌<◌, ◌≤◌, Bool, true, false, cond, eqb, sym, refl, ap, ◌∙◌, subst, ⊎_elim, mul_comm, arith}
+use Rattle.std.proofs.Common.{◌≡◌, ℕ, zero, suc, ◌+◌, ◌*◌, ◌/◌, ◌%◌, ◌<◌, ◌≤◌, Bool, true, false, cond, eqb, sym, refl, ap, ◌∙◌, subst, ⊎_elim, arith}
 use Rattle.std.proofs.Math.Nat.{mul_right_comm}
 use Rattle.std.proofs.lemmas.Nat.{div-mul-add, mod-mul-add, mul-le, div_below, mod_below, div-add-mod'}
 use Rattle.std.proofs.lemmas.Bool.{cond-true, cond-false, eq-eqb, ne_eqb, cases_eq, cases_lt}
+use Rattle.form.proofs.Shapes.{positive}
 use Rattle.form.specs.Shapes.{count}
-use Rattle.stage.proofs.Gathers.{positive, inside}
+use Rattle.stage.proofs.Gathers.{inside}
 use Rattle.axes.specs.Axes.{offset, index, Indexed, Numbered}
 
 pub count_same : (f g : ℕ → ℕ) (r : ℕ) → ((a : ℕ) → a < r → f a ≡ g a) → count f r ≡ count g r
@@ -31,7 +32,7 @@ index_rest lens r n a ne = cond-false (eqb a r) _ _ (ne_eqb a r ne)
 pub index_below : (lens : ℕ → ℕ) (r n a : ℕ) → n < count lens r → a < r → index lens r n a < lens a
 index_below lens zero n a h l = absurd (omega arith)
 index_below lens (suc r) n a h l =
-    let w = positive (lens r) (count lens r) n h in
+    let w = (positive (count lens r) (lens r) (omega arith)).1 in
     ⊎_elim
     (λ (e : a ≡ r). subst (λ v. index lens (suc r) n v < lens v) (sym e) (rw (index_last lens r n) (mod_below n (lens r) w)))
     (λ (e : a ≡ r → ⊥). rw (index_rest lens r n a e) (index_below lens r (n / lens r) a (div_below n (lens r) (count lens r) w h) (omega arith)))
@@ -40,7 +41,7 @@ index_below lens (suc r) n a h l =
 pub offset-index : (lens : ℕ → ℕ) (r n : ℕ) → n < count lens r → offset lens (index lens r n) r ≡ n
 offset-index lens zero n h = omega arith
 offset-index lens (suc r) n h =
-    let w = positive (lens r) (count lens r) n h in
+    let w = (positive (count lens r) (lens r) (omega arith)).1 in
     let e : offset lens (index lens (suc r) n) r ≡ offset lens (index lens r (n / lens r)) r
     = offset_same lens _ _ r (λ a l. index_rest lens r n a (λ q. omega arith)) in
     let k = offset-index lens r (n / lens r) (div_below n (lens r) (count lens r) w h) in
@@ -180,10 +181,9 @@ count_le lens a (suc r) h k =
     ⊎_elim
     (λ (e : a ≡ suc r). subst (λ v. (1 ≤ count lens v) × (count lens v ≤ count lens (suc r))) (sym e) (k, omega arith))
     (λ (e : a ≡ suc r → ⊥).
-    let w : 0 < lens r = positive (lens r) (count lens r) 0 k in
-    let v : 0 < count lens r = positive (count lens r) (lens r) 0 (rw (mul_comm (lens r) (count lens r)) k) in
-    let i = count_le lens a r (omega arith) v in
-    let m = mul-le (count lens r) 1 (count lens r) (lens r) (omega arith) w in
+    let p = positive (count lens r) (lens r) k in
+    let i = count_le lens a r (omega arith) p.0 in
+    let m = mul-le (count lens r) 1 (count lens r) (lens r) (omega arith) p.1 in
     (i.0, omega arith))
     (cases_eq a (suc r))
 

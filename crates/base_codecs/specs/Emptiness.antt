@@ -2,8 +2,7 @@
 use Rattle.std.specs.Prelude.{◌≡◌, ℕ, true, nat_le, refl}
 use Rattle.std.proofs.Common.{inl}
 use Rattle.std.proofs.lemmas.Bool.{le-leb}
-use Rattle.form.specs.Forms.{element_size}
-use Rattle.form.proofs.Shapes.{facts}
+use Rattle.form.proofs.Sized.{form_facts}
 use Rattle.stage.specs.Stage.{Laws}
 use Rattle.stage.specs.Arrays.{array_bytes, ArrayLaws}
 use Rattle.stage.proofs.Bytewise.{not_too_long}
@@ -28,7 +27,7 @@ empty_laws b = record {
 pub empty_arrays : ArrayLaws (empty_stage array_bytes)
 empty_arrays = record {
   refuses_shape = λ f.
-      let b : nat_le (array_bytes f) 4096 ≡ true = le-leb (array_bytes f) 4096 (facts f.lengths f.dims (element_size f) f.ok).fits in
+      let b : nat_le (array_bytes f) 4096 ≡ true = le-leb (array_bytes f) 4096 (form_facts f).fits in
       inl (rw b);
   count_kept = λ f r. refl;
   type_kept = λ f r. refl;

@@ -5,6 +5,7 @@ ghost use Rattle.stage.proofs.OneSingle.{single_laws};
 
 use form::fault::Fault;
 use stage::array_to_array::{ArrayToArrayCodec, SingleArrayToArrayCodec};
+use stage::array_to_bytes::{ArrayToBytesCodec, SingleArrayToBytesCodec};
 use stage::capability::PartialDecoderCapability;
 use stage::codec::{Codec, Representation};
 use stage::room::room;
@@ -89,7 +90,11 @@ impl<C: SingleCodec> Codec for Single<C> {
     }
 }
 
-// Over arrays, it keeps what its coding keeps.
+// From arrays, it keeps what its coding keeps.
 impl<C: SingleArrayToArrayCodec> ArrayToArrayCodec for Single<C> {
     ghost keeps = { λ s. C.SingleArrayToArrayCodec.keeps s.codec };
+}
+
+impl<C: SingleArrayToBytesCodec> ArrayToBytesCodec for Single<C> {
+    ghost keeps = { λ s. C.SingleArrayToBytesCodec.keeps s.codec };
 }

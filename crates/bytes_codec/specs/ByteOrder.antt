@@ -1,6 +1,7 @@
 -- The bytes codec of Zarr v3: the elements in C order, each as the bytes of its number in the byte order.
-use Rattle.std.specs.Prelude.{◌≡◌, ℕ, zero, suc, true, cond, List, [], ◌++◌, length, take, drop, reverse, Some, None, Option, nat_le}
+use Rattle.std.specs.Prelude.{◌≡◌, ℕ, zero, suc, true, List, [], ◌++◌, length, take, drop, reverse, Some, None, Option, nat_le}
 use Rattle.form.specs.declared.array_form.Form.{Form}
+use Rattle.form.specs.Answers.{checked}
 use Rattle.form.specs.Forms.{element_size}
 use Rattle.stage.specs.Single.{Coding, by_parts}
 use Rattle.stage.specs.Arrays.{element_count, array_bytes}
@@ -21,7 +22,7 @@ in_order (Some Big) w n x = swapped w n x
 
 -- elements of more than one byte without a byte order are refused with 10
 abbrev pub unordered : Option Endianness → ℕ → Option ℕ
-unordered None w = cond (nat_le w 1) None (Some 10)
+unordered None w = checked (nat_le w 1) 10 None
 unordered (Some e) w = None
 
 abbrev pub byte_ordering : Option Endianness → Coding Form ℕ

@@ -1,15 +1,15 @@
 -- The laws of the bytes codec, and what its bytes write.
-use Rattle.std.specs.Prelude.{◌≡◌, ℕ, ◌*◌, List, length, Some, None, Option, refl}
-use Rattle.std.proofs.Common.{sym, ap, ◌∙◌}
+use Rattle.std.specs.Prelude.{◌≡◌, ℕ, ◌*◌, Bool, true, false, cond, ◌⊎◌, List, length, Some, None, Option, nat_le, refl}
+use Rattle.std.proofs.Common.{sym, ap, ◌∙◌, inl, inr}
 use Rattle.form.specs.Forms.{element_size}
-use Rattle.form.proofs.Shapes.{facts}
+use Rattle.form.proofs.Sized.{form_facts}
 use Rattle.stage.specs.Stage.{Bytes}
-use Rattle.stage.specs.Single.{CodingLaws}
-use Rattle.stage.specs.Arrays.{element_count, array_bytes}
+use Rattle.stage.specs.Single.{CodingLaws, single}
+use Rattle.stage.specs.Arrays.{element_count, array_bytes, ArrayToBytesLaws}
 use Rattle.stage.specs.Elements.{elements_by, elements}
 use Rattle.bytes_codec.specs.declared.bytes_codec.Endianness.{Endianness}
 use Rattle.bytes_codec.specs.declared.bytes_codec.Endianness.TheVariants.{Little, Big}
-use Rattle.bytes_codec.specs.ByteOrder.{in_order, byte_ordering, number_in, Writes, Reads, Back}
+use Rattle.bytes_codec.specs.ByteOrder.{in_order, unordered, byte_ordering, number_in, Writes, Reads, Back}
 use Rattle.bytes_codec.specs.Swapped.{length-swapped, swapped_back, Bytes-swapped, big-swapped}
 
 length-in_order : (o : Option Endianness) (w n : ℕ) (x : List ℕ) → length x ≡ n * w → length (in_order o w n x) ≡ n * w
@@ -34,7 +34,7 @@ in_order_writes (Some Big) w n x l = big-swapped w n x l
 
 pub byte_ordering_laws : (o : Option Endianness) → CodingLaws array_bytes (λ n. n) (byte_ordering o)
 byte_ordering_laws o = record {
-  fits = λ f r. let k = (facts f.lengths f.dims (element_size f) f.ok).fits in (k, k);
+  fits = λ f r. let k = (form_facts f).fits in (k, k);
   encoded_size = λ f x r l. length-in_order o (element_size f) (element_count f) x l;
   encoded_bytes = λ f x r l h. Bytes-in_order o (element_size f) (element_count f) x l h;
   decoded_size = λ f x r l. length-in_order o (element_size f) (element_count f) x l;
@@ -42,6 +42,17 @@ byte_ordering_laws o = record {
   back = λ f x r l h. in_order_back o (element_size f) (element_count f) x l;
   passing = λ f x r l h. refl;
 }
+
+ten : (b : Bool) → (◌≡◌ {A = Option ℕ} (cond b None (Some 10)) None) ⊎ ((◌≡◌ {A = Option ℕ} (cond b None (Some 10)) (Some 9)) ⊎ (◌≡◌ {A = Option ℕ} (cond b None (Some 10)) (Some 10)))
+ten true = inl refl
+ten false = inr (inr refl)
+
+refuses : (o : Option Endianness) (w : ℕ) → (unordered o w ≡ None) ⊎ ((unordered o w ≡ Some 9) ⊎ (unordered o w ≡ Some 10))
+refuses None w = ten (nat_le w 1)
+refuses (Some e) w = inl refl
+
+pub byte_ordering_arrays : (o : Option Endianness) → ArrayToBytesLaws (single array_bytes (λ n. n) (byte_ordering o))
+byte_ordering_arrays o = record { refuses = λ f. refuses o (element_size f); passes_all = λ f k x. refl }
 
 pub back : Back
 back o f x l = in_order_back o (element_size f) (element_count f) x l

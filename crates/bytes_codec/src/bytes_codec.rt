@@ -1,16 +1,13 @@
 // The bytes codec: the elements of an array, each as its bytes in a given order.
-ghost use Rattle.std.specs.Prelude.{◌≡◌, ◌/◌, ◌%◌, ◌<◌, length, take, Ok};
-ghost use Rattle.form.specs.Refusals.{unless, only_if};
-ghost use Rattle.form.specs.Forms.{element_size};
-ghost use Rattle.stage.specs.Stage.{Unfailing};
-ghost use Rattle.stage.specs.Single.{single};
-ghost use Rattle.stage.specs.Arrays.{element_count, array_bytes};
-ghost use Rattle.stage.specs.Calls.{InPlace, roomy};
-ghost use Rattle.bytes_codec.specs.ByteOrder.{swapped, in_order, unordered, byte_ordering, Writes, Reads, Back};
-ghost use Rattle.bytes_codec.specs.Laws.{byte_ordering_laws};
+ghost use Rattle.std.specs.Prelude.{◌≡◌, ◌/◌, ◌%◌, ◌<◌, length};
+ghost use Rattle.stage.specs.Arrays.{array_bytes};
+ghost use Rattle.stage.specs.Calls.{SingleEncoded};
+ghost use Rattle.bytes_codec.specs.ByteOrder.{swapped, byte_ordering, Writes, Reads, Back};
+ghost use Rattle.bytes_codec.specs.Laws.{byte_ordering_laws, byte_ordering_arrays};
 
 use form::array_form::Form;
 use form::fault::Fault;
+use stage::array_to_bytes::SingleArrayToBytesCodec;
 use stage::capability::PartialDecoderCapability;
 use stage::room::{enough, room};
 use stage::single::SingleCodec;
@@ -36,7 +33,7 @@ fn swap(array: &mut [u8], size: usize)
     requires whole { length array.old % size ≡ 0 }
     ensures { array.new ≡ swapped size (length array.old / size) array.old }
 {
-    // By index, since a proof knows only the length of what is written through `chunks_exact_mut`.
+    // By index: of what is written through chunks_exact_mut a proof knows only the length.
     for e in 0..array.len() / size {
         array[e * size..(e + 1) * size].reverse();
     }
@@ -57,7 +54,7 @@ impl BytesCodec {
 
     // Puts the array in the front of a buffer into the byte order, or back: the same does both.
     fn order_front(&self, form: &Form, buf: &mut [u8], scratch: &[u8]) -> Result<usize, Fault>
-        ensures { InPlace (unless (unordered self.now.endian (element_size form.now)) (only_if (roomy (length buf.old) (length scratch.now)) 14 (Ok (array_bytes form.now)))) (in_order self.now.endian (element_size form.now) (element_count form.now) (take (array_bytes form.now) buf.old)) buf.new result }
+        ensures { SingleEncoded array_bytes (λ n. n) (byte_ordering self.now.endian) form.now buf.old buf.new (length scratch.now) result }
     {
         let count = self.coded(form)?;
         room(buf, scratch)?;
@@ -104,11 +101,14 @@ impl SingleCodec for BytesCodec {
     }
 }
 
+impl SingleArrayToBytesCodec for BytesCodec {
+    ghost keeps = { λ s. byte_ordering_arrays s.endian };
+}
+
 // What is proved of the format: which elements the bytes write, which elements are read from bytes, and that decoding gives the
-// array back; and that no test fails.
+// array back.
 pub fn byte_order_stands()
     ensures writes { Writes }
     ensures reads { Reads }
     ensures back { Back }
-    ensures unfailing { (endian : _) → Unfailing (single array_bytes (λ n. n) (byte_ordering endian)) }
 {}

@@ -4,7 +4,7 @@ use Rattle.std.proofs.lemmas.List.{set_at, take_more, at_drop_more, at_drop_all,
 use Rattle.std.proofs.lemmas.Bool.Decides.{nat_tests}
 use Rattle.form.specs.declared.fault.Fault.{Fault}
 use Rattle.form.specs.Answers.{Answers}
-use Rattle.pair.specs.Compose.{or_else}
+use Rattle.std.specs.Option.{option_or}
 use Rattle.base_codecs.specs.Chosen.{empty_choice}
 use Rattle.byte_codecs.specs.Chosen.{ByteCodec}
 use Rattle.chunkctl.specs.declared.command.StageName.{StageName}
@@ -46,7 +46,7 @@ added : {X : Type 0} (o : Option ℕ) (P : X → Type 0) (x : X) → Answers o P
 added None P x h = (refl, h)
 added (Some n) P x h = absurd h
 
-not_added : {X Y : Type 0} (o later : Option ℕ) (P : X → Type 0) (Q : Y → Type 0) (e : Fault) → Answers o P (Err e) → Answers (or_else o later) Q (Err e)
+not_added : {X Y : Type 0} (o later : Option ℕ) (P : X → Type 0) (Q : Y → Type 0) (e : Fault) → Answers o P (Err e) → Answers (option_or o later) Q (Err e)
 not_added None later P Q e h = absurd h
 not_added (Some n) later P Q e h = h
 
@@ -58,7 +58,7 @@ pub names_more : {X : Type 0} (names : List StageName) (i : ℕ) (d : StageName)
 names_more names i d P x h a e =
     let p = added (add_refusal i (get_or names i d)) P x a in
     let step = at_drop_more (names_refusal i) names i d h in
-    let on = ap (λ o. or_else o (names_refusal (i + 1) (drop (i + 1) names))) p.0 in
+    let on = ap (λ o. option_or o (names_refusal (i + 1) (drop (i + 1) names))) p.0 in
     (has_room i (get_or names i d) p.0, p.1, sym on ∙ (sym step ∙ e))
 
 pub names_stop : {X Y : Type 0} (names : List StageName) (i : ℕ) (d : StageName) (P : X → Type 0) (Q : Y → Type 0) (f : Fault) → i < length names → Answers (add_refusal i (get_or names i d)) P (Err f) → names_refusal i (drop i names) ≡ names_refusal 0 names → Answers (names_refusal 0 names) Q (Err f)

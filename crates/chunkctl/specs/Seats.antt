@@ -1,8 +1,9 @@
 -- Named stages, and the seats that they take.
 use Rattle.std.specs.Prelude.{◌≡◌, ℕ, ◌+◌, ◌-◌, ◌&&◌, List, [], ◌∷◌, ◌++◌, length, replicate, None, Option, nat_le, nat_lt}
+use Rattle.std.specs.Option.{option_or}
 use Rattle.form.specs.Answers.{checked}
 use Rattle.stage.specs.Stage.{Stage}
-use Rattle.pair.specs.Compose.{after, or_else}
+use Rattle.pair.specs.Compose.{after}
 use Rattle.pair.specs.declared.Pair.{Pair}
 use Rattle.base_codecs.specs.declared.chosen.Chosen.TheVariants.{First, Second}
 use Rattle.base_codecs.specs.Chosen.{empty_choice}
@@ -49,7 +50,7 @@ add_refusal taken name = checked (nat_lt taken 4) 6 (name_refusal name)
 -- the same of stages that are added one by one
 abbrev pub names_refusal : ℕ → List StageName → Option ℕ
 names_refusal taken [] = None
-names_refusal taken (n ∷ ns) = or_else (add_refusal taken n) (names_refusal (taken + 1) ns)
+names_refusal taken (n ∷ ns) = option_or (add_refusal taken n) (names_refusal (taken + 1) ns)
 
 -- the stages have the first seats in their order, and the others are empty
 abbrev pub Seated : List StageName → List ByteCodec → Type 0

@@ -5,11 +5,12 @@
 ghost use Rattle.std.specs.Prelude.{◌≡◌, length};
 ghost use Rattle.form.specs.Refusals.{told};
 ghost use Rattle.stage.specs.Stage.{Laws, Unfailing};
-ghost use Rattle.stage.specs.Arrays.{ArrayLaws};
+ghost use Rattle.stage.specs.Arrays.{ArrayLaws, ArrayToBytesLaws};
 ghost use Rattle.stage.specs.Calls.{encode_answer, undo_answer, written};
 
 use form::fault::Fault;
 use stage::array_to_array::ArrayToArrayCodec;
+use stage::array_to_bytes::ArrayToBytesCodec;
 use stage::codec::{Codec, Representation};
 use stage::room::room;
 
@@ -18,10 +19,16 @@ pub fn laws_hold<C: Codec>(codec: &C)
     ensures { Laws C.Decoded.Representation.weight C.Encoded.Representation.weight (C.Codec.meaning codec.now) }
 {}
 
-// And every codec from arrays to arrays keeps the data type, the count of elements and the fill value, and is never refused with
-// 15.
+// Every codec from arrays to arrays keeps the data type, the count of elements and the fill value, refuses a form with 9 or not
+// at all, and is never refused with 15.
 pub fn array_laws_hold<C: ArrayToArrayCodec>(codec: &C)
     ensures kept { ArrayLaws (C.Codec.meaning codec.now) }
+    ensures unfailing { Unfailing (C.Codec.meaning codec.now) }
+{}
+
+// Every codec from arrays to bytes refuses a form with 9 or 10 or not at all, and is never refused with 15.
+pub fn array_to_bytes_laws_hold<C: ArrayToBytesCodec>(codec: &C)
+    ensures kept { ArrayToBytesLaws (C.Codec.meaning codec.now) }
     ensures unfailing { Unfailing (C.Codec.meaning codec.now) }
 {}
 

@@ -1,12 +1,8 @@
 -- One stage after another: the inner encodes first, the outer's singles are undone first.
-use Rattle.std.specs.Prelude.{ℕ, ◌+◌, ◌-◌, cond, List, ◌++◌, map, length, Some, None, Ok, Err, Option, Result, nat_le, nat_lt}
+use Rattle.std.specs.Prelude.{ℕ, ◌+◌, ◌-◌, cond, List, ◌++◌, map, length, Ok, Err, Result, nat_le, nat_lt}
+use Rattle.std.specs.Option.{option_or}
 use Rattle.form.specs.Refusals.{Refusal}
 use Rattle.stage.specs.Stage.{Stage}
-
--- the first of two answers, if there is one
-abbrev pub or_else : {X : Type 0} → Option X → Option X → Option X
-or_else None b = b
-or_else (Some n) b = Some n
 
 -- a refusal whose singles are counted from n singles earlier
 abbrev pub shifted : ℕ → Refusal → Refusal
@@ -31,7 +27,7 @@ module _ {F G H : Type 0} (o : Stage G H) (i : Stage F G) where
   abbrev pub after : Stage F H
   after = record {
     singles = o.singles ++ i.singles;
-    refusal = λ f. or_else (i.refusal f) (o.refusal (i.coded f));
+    refusal = λ f. option_or (i.refusal f) (o.refusal (i.coded f));
     coded = λ f. o.coded (i.coded f);
     size = λ f k. cond (nat_le k seam) (o.size (i.coded f) k) (i.size f (k - seam));
     encoded = λ f x. o.encoded (i.coded f) (i.encoded f x);

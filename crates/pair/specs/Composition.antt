@@ -1,14 +1,13 @@
 -- The laws of one stage after another, the first test that fails, and what the two halves' work makes of the pair's.
-use Rattle.std.specs.Prelude.{◌≡◌, ℕ, zero, suc, ◌+◌, ◌-◌, ◌^◌, ◌<◌, ◌≤◌, Bool, true, false, cond, ◌⊎◌, List, [], ◌∷◌, ◌++◌, length, take, Some, None, Ok, Err, Option, Result, nat_le, nat_lt, refl}
+use Rattle.std.specs.Prelude.{◌≡◌, ℕ, zero, suc, ◌+◌, ◌-◌, ◌<◌, ◌≤◌, Bool, true, false, cond, ◌⊎◌, List, ◌++◌, length, take, Some, None, Ok, Err, Option, Result, nat_le, nat_lt, refl}
 use Rattle.std.proofs.Common.{sym, ap, subst, ◌∙◌, inl, inr, ⊎_elim, arith, length-append}
-use Rattle.std.specs.Option.{SomeIff}
+use Rattle.std.specs.Option.{option_or}
 use Rattle.std.proofs.lemmas.List.{length-take-le}
 use Rattle.std.proofs.lemmas.Bool.{cond-true, cond-false, le-leb, lt-leb, lt-ltb, le-ltb, cases_lt}
-use Rattle.form.specs.Refusals.{Refusal, plain, unless}
-use Rattle.stage.specs.Stage.{Bytes, Counted, Stage, Laws, first_false, failing, answered, checked, outcome, at}
-use Rattle.stage.proofs.Refusing.{unless_ok}
+use Rattle.form.specs.Refusals.{Refusal}
+use Rattle.stage.specs.Stage.{Bytes, Stage, Laws, first_false, failing, answered, tested, outcome}
 use Rattle.stage.proofs.Undoing.{Did, answered_ok}
-use Rattle.pair.specs.Compose.{or_else, lifted, after}
+use Rattle.pair.specs.Compose.{lifted, after}
 
 -- a number's count from an earlier start
 abbrev pub raised : ℕ → Option ℕ → Option ℕ
@@ -21,32 +20,9 @@ followed (Ok k) r = r
 followed (Err e) r = Err e
 
 -- where neither of two refuses
-pub neither : {X : Type 0} (a b : Option X) → or_else a b ≡ None → (a ≡ None) × (b ≡ None)
+pub neither : {X : Type 0} (a b : Option X) → option_or a b ≡ None → (a ≡ None) × (b ≡ None)
 neither None b e = (refl, e)
 neither (Some n) b e = let z : ◌≡◌ {A = ℕ} 0 1 = cc in absurd (omega arith)
-
-or_none : {X : Type 0} (a : Option X) → or_else a None ≡ a
-or_none None = refl
-or_none (Some n) = refl
-
--- what two halves tell of a form makes what the pair tells: the inner's refusal comes first
-pub unless_inner : {X Y : Type 0} (a b : Option ℕ) (e : Refusal) (x : X) (r : Result Y Refusal) → Err e ≡ unless a (Ok x) → Err e ≡ unless (or_else a b) r
-unless_inner None b e x r h = let z : ◌≡◌ {A = ℕ} 0 1 = cc in absurd (omega arith)
-unless_inner (Some n) b e x r h = let z : e ≡ plain n = cc in ap Err z
-
-module _ {G H : Type 0} (a : Option ℕ) (b : G → Option ℕ) (g g' : G) where
-  pub unless_outer : {Y : Type 0} (e : Refusal) (y : H) (r : Result Y Refusal) → Ok g ≡ unless a (Ok g') → Err e ≡ unless (b g) (Ok y) → Err e ≡ unless (or_else a (b g')) r
-  unless_outer e y r h k =
-      let p = unless_ok a (Ok g') g h in
-      let q : g ≡ g' = let u = p.1 in cc in
-      unless_inner (b g) None e y r k ∙ ap (λ v. unless v r) (or_none (b g) ∙ ap b q ∙ sym (ap (λ v. or_else v (b g')) p.0))
-
-  pub unless_both : (y y' : H) → Ok g ≡ unless a (Ok g') → Ok y ≡ unless (b g) (Ok y') → Ok g ≡ unless (or_else a (b g')) (Ok g')
-  unless_both y y' h k =
-      let p = unless_ok a (Ok g') g h in
-      let q : g ≡ g' = let u = p.1 in cc in
-      let n : or_else a (b g') ≡ None = ap (λ v. or_else v (b g')) p.0 ∙ sym (ap b q) ∙ (unless_ok (b g) (Ok y') y k).0 in
-      p.1 ∙ sym (ap (λ v. unless v (Ok g')) n)
 
 cases_le : (m n : ℕ) → (m ≤ n) ⊎ (n < m)
 cases_le m n = ⊎_elim (λ h. inr h) (λ h. inl h) (cases_lt n m)
@@ -70,11 +46,11 @@ first_false_raised p c a (suc n) =
     ∙ ap (λ v. cond (p (c + a)) v (Some (c + a))) (first_false_raised p c (suc a) n)
     ∙ raised_cond c (p (c + a)) (first_false (λ k. p (c + k)) (suc a) n) a
 
-or_else_cond : (b : Bool) (u v : Option ℕ) (k : ℕ) → cond b (or_else u v) (Some k) ≡ or_else (cond b u (Some k)) v
-or_else_cond true u v k = refl
-or_else_cond false u v k = refl
+or_cond : (b : Bool) (u v : Option ℕ) (k : ℕ) → cond b (option_or u v) (Some k) ≡ option_or (cond b u (Some k)) v
+or_cond true u v k = refl
+or_cond false u v k = refl
 
-first_false_split : (p : ℕ → Bool) (a m n : ℕ) → first_false p a (m + n) ≡ or_else (first_false p a m) (first_false p (a + m) n)
+first_false_split : (p : ℕ → Bool) (a m n : ℕ) → first_false p a (m + n) ≡ option_or (first_false p a m) (first_false p (a + m) n)
 first_false_split p a zero n =
     let e : 0 + n ≡ n = omega arith in
     let z : a ≡ a + 0 = omega arith in
@@ -83,24 +59,24 @@ first_false_split p a (suc m) n =
     let e : suc m + n ≡ suc (m + n) = omega arith in
     let z : suc a + m ≡ a + suc m = omega arith in
     ap (first_false p a) e
-    ∙ ap (λ v. cond (p a) v (Some a)) (first_false_split p (suc a) m n ∙ ap (λ v. or_else (first_false p (suc a) m) (first_false p v n)) z)
-    ∙ or_else_cond (p a) (first_false p (suc a) m) (first_false p (a + suc m) n) a
+    ∙ ap (λ v. cond (p a) v (Some a)) (first_false_split p (suc a) m n ∙ ap (λ v. option_or (first_false p (suc a) m) (first_false p v n)) z)
+    ∙ or_cond (p a) (first_false p (suc a) m) (first_false p (a + suc m) n) a
 
 answer_raised : (n k : ℕ) (u : Option ℕ) → answered (raised n u) k ≡ lifted n (answered u k)
 answer_raised n k None = refl
 answer_raised n k (Some j) = refl
 
-checked_raised : (n : ℕ) (c : Bool) (u : Option ℕ) → checked c (raised n u) ≡ raised n (checked c u)
-checked_raised n true u = refl
-checked_raised n false u = refl
+tested_raised : (n : ℕ) (c : Bool) (u : Option ℕ) → tested c (raised n u) ≡ raised n (tested c u)
+tested_raised n true u = refl
+tested_raised n false u = refl
 
-checked_or_else : (c : Bool) (u v : Option ℕ) → checked c (or_else u v) ≡ or_else (checked c u) (checked c v)
-checked_or_else true u v = refl
-checked_or_else false u v = refl
+tested_or : (c : Bool) (u v : Option ℕ) → tested c (option_or u v) ≡ option_or (tested c u) (tested c v)
+tested_or true u v = refl
+tested_or false u v = refl
 
-answer_or_else : (j k : ℕ) (u v : Option ℕ) → answered (or_else u v) k ≡ followed (answered u j) (answered v k)
-answer_or_else j k None v = refl
-answer_or_else j k (Some n) v = refl
+answer_or : (j k : ℕ) (u v : Option ℕ) → answered (option_or u v) k ≡ followed (answered u j) (answered v k)
+answer_or j k None v = refl
+answer_or j k (Some n) v = refl
 
 lifted_ok : (n k : ℕ) (q : Result ℕ Refusal) → lifted n q ≡ Ok k → q ≡ Ok k
 lifted_ok n k (Ok j) e = e
@@ -343,15 +319,15 @@ module _ {F G H : Type 0} (bF : F → ℕ) (bG : G → ℕ) (bH : H → ℕ) (o 
         passes_inner (s + j) _ (omega arith) ∙ ap (i.passes f ((s + j) - s)) (both_inner a (s + j) x h (omega arith) (omega arith) e)
         ∙ ap (λ q. i.passes f q (i.undone f (a - s) q x)) ej))
 
-    failing_across : (a b : ℕ) (x : List ℕ) → a ≤ s → s ≤ b → b ≤ all → length x ≡ p.size f a → failing p f a b x ≡ or_else (failing o m a s x) (raised s (failing i f 0 (b - s) (o.undone m a s x)))
+    failing_across : (a b : ℕ) (x : List ℕ) → a ≤ s → s ≤ b → b ≤ all → length x ≡ p.size f a → failing p f a b x ≡ option_or (failing o m a s x) (raised s (failing i f 0 (b - s) (o.undone m a s x)))
     failing_across a b x h k t e =
         let eb : b - a ≡ (s - a) + (b - s) = omega arith in
         let es : a + (s - a) ≡ s + 0 = omega arith in
         let ez : b - s ≡ (b - s) - 0 = omega arith in
         let P : ℕ → Bool = λ j. p.passes f j (p.undone f a j x) in
         ap (first_false P a) eb ∙ first_false_split P a (s - a) (b - s)
-        ∙ ap (λ v. or_else v (first_false P (a + (s - a)) (b - s))) (failing_outer a s x h (omega arith))
-        ∙ ap (or_else (failing o m a s x))
+        ∙ ap (λ v. option_or v (first_false P (a + (s - a)) (b - s))) (failing_outer a s x h (omega arith))
+        ∙ ap (option_or (failing o m a s x))
         (ap (λ v. first_false P v (b - s)) es ∙ first_false_raised P s 0 (b - s)
         ∙ ap (λ v. raised s (first_false (λ j. P (s + j)) 0 v)) ez
         ∙ ap (raised s) (first_false_same _ _ 0 ((b - s) - 0) (λ j v w.
@@ -362,26 +338,26 @@ module _ {F G H : Type 0} (bF : F → ℕ) (bG : G → ℕ) (bH : H → ℕ) (o 
     -- what undoing the pair answers, by where the two places lie
     pub outcome_outer : (a b : ℕ) (c : Bool) (x : List ℕ) → a ≤ b → b ≤ s → outcome p f a b c x ≡ outcome o m a b c x
     outcome_outer a b c x h u =
-        ap (λ v. answered (checked c v) (p.size f b)) (failing_outer a b x h u) ∙ ap (answered (checked c (failing o m a b x))) (size_outer b u)
+        ap (λ v. answered (tested c v) (p.size f b)) (failing_outer a b x h u) ∙ ap (answered (tested c (failing o m a b x))) (size_outer b u)
 
     pub outcome_inner : (a b : ℕ) (c : Bool) (x : List ℕ) → s ≤ a → a ≤ b → b ≤ all → length x ≡ p.size f a → outcome p f a b c x ≡ lifted s (outcome i f (a - s) (b - s) c x)
     outcome_inner a b c x h k t e =
         let sb : s ≤ b = omega arith in
-        ap (λ v. answered (checked c v) (p.size f b)) (failing_inner a b x h k t e)
-        ∙ ap (answered (checked c (raised s (failing i f (a - s) (b - s) x)))) (size_inner b sb)
-        ∙ ap (λ v. answered v (i.size f (b - s))) (checked_raised s c (failing i f (a - s) (b - s) x))
-        ∙ answer_raised s (i.size f (b - s)) (checked c (failing i f (a - s) (b - s) x))
+        ap (λ v. answered (tested c v) (p.size f b)) (failing_inner a b x h k t e)
+        ∙ ap (answered (tested c (raised s (failing i f (a - s) (b - s) x)))) (size_inner b sb)
+        ∙ ap (λ v. answered v (i.size f (b - s))) (tested_raised s c (failing i f (a - s) (b - s) x))
+        ∙ answer_raised s (i.size f (b - s)) (tested c (failing i f (a - s) (b - s) x))
 
     pub outcome_across : (a b : ℕ) (c : Bool) (x : List ℕ) → a ≤ s → s ≤ b → b ≤ all → length x ≡ p.size f a → outcome p f a b c x ≡ followed (outcome o m a s c x) (lifted s (outcome i f 0 (b - s) c (o.undone m a s x)))
     outcome_across a b c x h k t e =
         let y : List ℕ = o.undone m a s x in
-        ap (λ v. answered (checked c v) (p.size f b)) (failing_across a b x h k t e)
-        ∙ ap (answered (checked c (or_else (failing o m a s x) (raised s (failing i f 0 (b - s) y))))) (size_inner b k)
-        ∙ ap (λ v. answered v (i.size f (b - s))) (checked_or_else c (failing o m a s x) (raised s (failing i f 0 (b - s) y)))
-        ∙ answer_or_else (o.size m s) (i.size f (b - s)) (checked c (failing o m a s x)) (checked c (raised s (failing i f 0 (b - s) y)))
+        ap (λ v. answered (tested c v) (p.size f b)) (failing_across a b x h k t e)
+        ∙ ap (answered (tested c (option_or (failing o m a s x) (raised s (failing i f 0 (b - s) y))))) (size_inner b k)
+        ∙ ap (λ v. answered v (i.size f (b - s))) (tested_or c (failing o m a s x) (raised s (failing i f 0 (b - s) y)))
+        ∙ answer_or (o.size m s) (i.size f (b - s)) (tested c (failing o m a s x)) (tested c (raised s (failing i f 0 (b - s) y)))
         ∙ ap (followed (outcome o m a s c x))
-        (ap (λ v. answered v (i.size f (b - s))) (checked_raised s c (failing i f 0 (b - s) y))
-        ∙ answer_raised s (i.size f (b - s)) (checked c (failing i f 0 (b - s) y)))
+        (ap (λ v. answered v (i.size f (b - s))) (tested_raised s c (failing i f 0 (b - s) y))
+        ∙ answer_raised s (i.size f (b - s)) (tested c (failing i f 0 (b - s) y)))
 
     taken_length : (a : ℕ) (w : List ℕ) → a ≤ all → 4096 ≤ length w → length (take (p.size f a) w) ≡ p.size f a
     taken_length a w t h = let b = bound a t in length-take-le (p.size f a) w (omega arith)
@@ -437,7 +413,7 @@ module _ {F G H : Type 0} (bF : F → ℕ) (bG : G → ℕ) (bH : H → ℕ) (o 
         let y : List ℕ = o.undone m a s x in
         let e : length x ≡ p.size f a = taken_length a w (omega arith) r' in
         let za : o.size m a ≡ p.size f a = sym (size_outer a ha) in
-        let dn : z ≡ o.size m s = answered_ok (checked c (failing o m a s (take (o.size m a) w))) (o.size m s) z d.answer in
+        let dn : z ≡ o.size m s = answered_ok (tested c (failing o m a s (take (o.size m a) w))) (o.size m s) z d.answer in
         let there : take (i.size f 0) w' ≡ y = ap (λ v. take v w') (sym (dn ∙ meet)) ∙ d.bytes z refl ∙ ap (λ v. o.undone m a s (take v w)) za in
         record {
           answer =
@@ -463,21 +439,3 @@ module _ {F G H : Type 0} (bF : F → ℕ) (bG : G → ℕ) (bH : H → ℕ) (o 
     whole = λ f x r e y. whole f r x e y;
     passing = λ f k x r t e y. passing f r k x t e y;
   }
-
--- the element at a number, in two lists one after the other
-pub at_left : {X : Type 0} (xs ys : List X) (k : ℕ) → k < length xs → at (xs ++ ys) k ≡ at xs k
-at_left [] ys k h = absurd (omega arith)
-at_left (x ∷ xs) ys zero h = refl
-at_left (x ∷ xs) ys (suc k) h = at_left xs ys k (omega arith)
-
-pub at_right : {X : Type 0} (xs ys : List X) (k : ℕ) → length xs ≤ k → at (xs ++ ys) k ≡ at ys (k - length xs)
-at_right [] ys k h = let e : k ≡ k - 0 = omega arith in ap (at ys) e
-at_right (x ∷ xs) ys zero h = absurd (omega arith)
-at_right (x ∷ xs) ys (suc k) h =
-    let e : k - length xs ≡ suc k - suc (length xs) = omega arith in
-    at_right xs ys k (omega arith) ∙ ap (at ys) e
-
--- the counts of two lists, added
-pub counted_sum : {X : Type 0} (xs ys : List X) (m n : ℕ) (r : Option ℕ) → m ≡ length xs → n ≡ length ys → SomeIff r (m + n < 2 ^ 64) (m + n) → Counted (length (xs ++ ys)) r
-counted_sum xs ys m n None p q h = omega (arith, length-append xs ys)
-counted_sum xs ys m n (Some k) p q h = omega (arith, length-append xs ys)

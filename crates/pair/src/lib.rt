@@ -6,10 +6,11 @@ ghost use Rattle.form.specs.declared.fault.Fault.TheVariants.{Checksum};
 ghost use Rattle.form.specs.Refusals.{refusal, told, unless};
 ghost use Rattle.pair.specs.Compose.{after, shifted, lifted};
 ghost use Rattle.pair.specs.Composition.{after_laws};
-ghost use Rattle.pair.specs.ArrayPairs.{after_arrays};
+ghost use Rattle.pair.specs.ArrayPairs.{after_arrays, after_array_to_bytes};
 
 use form::fault::Fault;
 use stage::array_to_array::ArrayToArrayCodec;
+use stage::array_to_bytes::ArrayToBytesCodec;
 use stage::capability::PartialDecoderCapability;
 use stage::codec::{Codec, Representation};
 
@@ -150,4 +151,11 @@ impl<O: ArrayToArrayCodec, I: ArrayToArrayCodec> ArrayToArrayCodec for Pair<O, I
     ghost keeps = { λ s.
         after_arrays (O.Codec.meaning s.outer) (I.Codec.meaning s.inner)
         (O.ArrayToArrayCodec.keeps s.outer) (I.ArrayToArrayCodec.keeps s.inner) };
+}
+
+// One from arrays to bytes after one from arrays to arrays is one from arrays to bytes.
+impl<O: ArrayToBytesCodec, I: ArrayToArrayCodec> ArrayToBytesCodec for Pair<O, I> {
+    ghost keeps = { λ s.
+        after_array_to_bytes (O.Codec.meaning s.outer) (I.Codec.meaning s.inner)
+        (O.ArrayToBytesCodec.keeps s.outer) (I.ArrayToArrayCodec.keeps s.inner) };
 }

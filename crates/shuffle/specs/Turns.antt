@@ -3,8 +3,9 @@ use Rattle.std.specs.Prelude.{◌≡◌, ℕ, ◌+◌, ◌*◌, ◌/◌, ◌%◌
 use Rattle.std.proofs.Common.{sym, refl, ap, subst, ◌∙◌, mul_comm, arith}
 use Rattle.std.proofs.lemmas.Nat.{div-mul-add, mod-mul-add, mul-add-lt, div_below, mod_below, div-add-mod'}
 use Rattle.std.proofs.lemmas.List.{ext_get_or}
+use Rattle.form.proofs.Shapes.{positive}
 use Rattle.stage.specs.Gathers.{gathered}
-use Rattle.stage.proofs.Gathers.{get_or-gathered, gathered_back, positive, inside}
+use Rattle.stage.proofs.Gathers.{get_or-gathered, gathered_back, inside}
 use Rattle.shuffle.specs.Shuffle.{by_columns, turned, Goes, Back}
 
 -- two lists of h rows of w places are equal if they agree at each place
@@ -17,7 +18,7 @@ agree w h xs ys lx ly k =
     ext_get_or 0 xs ys (lx ∙ sym ly)
     (λ i lt.
     let li : i < h * w = omega arith in
-    let pos : 0 < w = positive w h i li in
+    let pos : 0 < w = (positive h w (omega arith)).1 in
     let e : i / w * w + i % w ≡ i = div-add-mod' i w in
     subst (λ (x : ℕ). slice_index xs x ≡ slice_index ys x) e (k (i / w) (i % w) (div_below i w h pos li) (mod_below i w pos)))
 
@@ -29,7 +30,7 @@ by_columns_at rows cols i j h = rw (mod-mul-add j rows i h, div-mul-add j rows i
 pub by_columns_back : (rows cols p : ℕ) → p < rows * cols → (by_columns rows cols p < rows * cols) × (by_columns cols rows (by_columns rows cols p) ≡ p)
 by_columns_back rows cols p h =
     let k : p < cols * rows = rw (mul_comm cols rows) h in
-    let w = positive rows cols p k in
+    let w = (positive cols rows (omega arith)).1 in
     let row : p % rows < rows = mod_below p rows w in
     let col : p / rows < cols = div_below p rows cols w k in
     (inside (p % rows) cols (p / rows) rows row col, by_columns_at cols rows (p / rows) (p % rows) col ∙ div-add-mod' p rows)

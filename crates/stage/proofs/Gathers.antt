@@ -1,8 +1,9 @@
 -- Bytes put into another order, and back: the laws of every coding that only moves bytes.
-use Rattle.std.proofs.Common.{◌≡◌, ℕ, zero, suc, ◌+◌, ◌*◌, ◌/◌, ◌%◌, ◌<◌, ◌≤◌, true, List, length, get_or, None, sym, ap, ◌∙◌, subst, mul_comm, mul-zero, zero-add, arith}
+use Rattle.std.proofs.Common.{◌≡◌, ℕ, ◌+◌, ◌*◌, ◌/◌, ◌%◌, ◌<◌, ◌≤◌, true, List, length, get_or, None, sym, ap, ◌∙◌, subst, mul_comm, zero-add, arith}
 use Rattle.std.proofs.lemmas.Nat.{div-mul-add, mod-mul-add, mul-add-lt, div_below, mod_below, div-add-mod'}
 use Rattle.std.proofs.lemmas.List.FromFn.{length-map-range_with_len, get_or-map-range_with_len}
 use Rattle.std.proofs.lemmas.List.{ext_get_or}
+use Rattle.form.proofs.Shapes.{positive}
 use Rattle.stage.specs.Stage.{Bytes}
 use Rattle.stage.specs.Single.{Coding, CodingLaws}
 use Rattle.stage.specs.Gathers.{gathered, by_element}
@@ -48,10 +49,6 @@ module _ {F G : Type 0} (bF : F → ℕ) (bG : G → ℕ) (s : Coding F G) (out 
     passing = λ f x r l h. t f (s.encoded f x);
   }
 
-pub positive : (w h i : ℕ) → i < h * w → 0 < w
-positive zero h i l = absurd (omega (arith, mul-zero h))
-positive (suc w) h i l = omega arith
-
 -- place b of row a, where a row has w places and there are h rows
 pub inside : (a w b h : ℕ) → a < h → b < w → a * w + b < h * w
 inside a w b h la lb = rw (mul_comm h w) (mul-add-lt a w b h la lb)
@@ -63,7 +60,7 @@ element_byte g s e b l = ap (λ v. g v * s + (e * s + b) % s) (div-mul-add e s b
 -- c elements move by g, and back by h
 pub elements_back : (g h : ℕ → ℕ) (c s : ℕ) → ((e : ℕ) → e < c → (h e < c) × (g (h e) ≡ e)) → (p : ℕ) → p < c * s → (by_element h s p < c * s) × (by_element g s (by_element h s p) ≡ p)
 elements_back g h c s k p l =
-    let w = positive s c p l in
+    let w = (positive c s (omega arith)).1 in
     let e = k (p / s) (div_below p s c w l) in
     let b : p % s < s = mod_below p s w in (
       inside (h (p / s)) s (p % s) c e.0 b,

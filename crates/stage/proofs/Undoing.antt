@@ -1,10 +1,10 @@
 -- What undoing in place answers and leaves, by the ways that it can go.
 use Rattle.std.proofs.Common.{◌≡◌, ℕ, zero, suc, ◌+◌, ◌-◌, ◌<◌, ◌≤◌, Bool, true, false, cond, leb, List, length, get_or, take, Some, None, Ok, Err, Option, Result, sym, refl, ap, ◌∙◌, subst, arith}
-use Rattle.std.proofs.lemmas.Bool.{and_parts, and_from, leb-true, le-leb, lt-leb}
+use Rattle.std.proofs.lemmas.Bool.{and_parts, and_from, leb-true, le-leb}
 use Rattle.form.specs.declared.fault.Fault.{Fault}
 use Rattle.form.specs.declared.fault.Fault.TheVariants.{Checksum}
 use Rattle.form.specs.Refusals.{Refusal, plain, failed, told, unless, only_if}
-use Rattle.stage.specs.Stage.{Stage, first_false, failing, checked, answered, outcome}
+use Rattle.stage.specs.Stage.{Stage, first_false, failing, tested, answered, outcome}
 use Rattle.stage.specs.Calls.{roomy, forward, size_answer, undo_in_place, InPlace, Undone}
 
 -- what undoing from place i to place j leaves of a buffer, where the form, the places and the buffers are good
@@ -28,7 +28,7 @@ answered_ok (Some j) n k e = let z : ◌≡◌ {A = ℕ} 0 1 = cc in absurd (ome
 pub outcome_below : {F G : Type 0} (t : Stage F G) (f : F) (a b : ℕ) (c : Bool) (x : List ℕ) (k : ℕ) → a ≤ b → outcome t f a b c x ≡ Err (failed k) → k < b
 outcome_below t f a b c x k h w = named c (failing t f a b x) refl w
   where
-    named : (c : Bool) (u : Option ℕ) → failing t f a b x ≡ u → answered (checked c u) (t.size f b) ≡ Err (failed k) → k < b
+    named : (c : Bool) (u : Option ℕ) → failing t f a b x ≡ u → answered (tested c u) (t.size f b) ≡ Err (failed k) → k < b
     named true None q w = let z : ◌≡◌ {A = ℕ} 0 1 = cc in absurd (omega arith)
     named true (Some j) q w =
         let d = first_false_below _ a (b - a) j q in
@@ -56,9 +56,6 @@ pub data Went {F G : Type 0} (t : Stage F G) (f : F) (a b : ℕ) (c : Bool) (w w
 module _ {F G : Type 0} (bF : F → ℕ) (t : Stage F G) (f : F) (r : t.refusal f ≡ None) where
   pub sized : (k : ℕ) → k ≤ length t.singles → size_answer t f k ≡ Ok (t.size f k)
   sized k h = let b : leb k (length t.singles) ≡ true = le-leb k _ h in rw (r, b)
-
-  pub unsized : (k : ℕ) → length t.singles < k → size_answer t f k ≡ Err (plain 13)
-  unsized k h = let b : leb k (length t.singles) ≡ false = lt-leb k _ h in rw (r, b)
 
   module _ (a b : ℕ) (c : Bool) (w w' : List ℕ) (sc : ℕ) (q : Result ℕ Fault) where
     abbrev x : List ℕ
@@ -115,7 +112,3 @@ pub moved : {F G : Type 0} (bF : F → ℕ) (t : Stage F G) (f : F) (a a' b : �
 moved bF t f a a' b c w w₀ w' sc sc₀ q ea ew es d =
     subst (λ v. Undone bF t f v b c w w' sc q) ea
     (subst (λ v. Undone bF t f a' b c v w' sc q) ew (subst (λ v. Undone bF t f a' b c w₀ w' v q) es d))
-
--- what one stage undoes, the same stage undoes by its other name
-pub undone_by : {F G : Type 0} (bF : F → ℕ) (t u : Stage F G) → u ≡ t → (f : F) (i j : ℕ) (checks : Bool) (before behind : List ℕ) (scratch : ℕ) (r : Result ℕ Fault) → Undone bF t f i j checks before behind scratch r → Undone bF u f i j checks before behind scratch r
-undone_by bF t u e f i j checks before behind scratch r d = subst (λ v. Undone bF v f i j checks before behind scratch r) (sym e) d

@@ -22,3 +22,10 @@ pub record ArrayLaws (t : Stage Form Form) : Type 0 where
   pub fill_kept : (f : Form) → t.refusal f ≡ None → (t.coded f).fill ≡ f.fill
   -- every test passes
   pub passes_all : (f : Form) (k : ℕ) (x : List ℕ) → t.passes f k x ≡ true
+
+-- and what a stage from arrays to bytes keeps
+pub record ArrayToBytesLaws (t : Stage Form ℕ) : Type 0 where
+  -- a shape is refused with 9, elements that have no byte order with 10, and nothing else is refused
+  pub refuses : (f : Form) → (t.refusal f ≡ None) ⊎ ((t.refusal f ≡ Some 9) ⊎ (t.refusal f ≡ Some 10))
+  -- every test passes
+  pub passes_all : (f : Form) (k : ℕ) (x : List ℕ) → t.passes f k x ≡ true

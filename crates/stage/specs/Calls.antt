@@ -1,9 +1,9 @@
 -- What the calls of a stage answer, and what they leave in each buffer.
-use Rattle.std.specs.Prelude.{◌≡◌, ℕ, Bool, ◌&&◌, List, ◌++◌, length, take, drop, Ok, Err, Result, ◌==◌, nat_le}
+use Rattle.std.specs.Prelude.{◌≡◌, ℕ, Bool, ◌&&◌, List, ◌++◌, length, take, drop, Ok, Err, Result, ◌==◌, nat_le, slice_get}
 use Rattle.form.specs.declared.fault.Fault.{Fault}
 use Rattle.form.specs.Refusals.{Refusal, told, unless, only_if, or_refused}
 use Rattle.stage.specs.declared.capability.PartialDecoderCapability.{PartialDecoderCapability}
-use Rattle.stage.specs.Stage.{Stage, at, outcome}
+use Rattle.stage.specs.Stage.{Stage, outcome}
 use Rattle.stage.specs.Single.{Coding}
 
 -- each of the two work buffers has 4,096 bytes
@@ -12,7 +12,7 @@ roomy work scratch = nat_le 4096 work && nat_le 4096 scratch
 
 module _ {F G : Type 0} (t : Stage F G) where
   abbrev pub capability_answer : ℕ → Result PartialDecoderCapability Refusal
-  capability_answer k = or_refused (at t.singles k) 13
+  capability_answer k = or_refused (slice_get t.singles k) 13
 
   abbrev pub coded_answer : F → Result G Refusal
   coded_answer f = unless (t.refusal f) (Ok (t.coded f))

@@ -1,5 +1,6 @@
 -- What a coding stage means, and the laws that it keeps. F is the form of what is decoded, G of what is encoded.
-use Rattle.std.specs.Prelude.{◌≡◌, ℕ, zero, suc, ◌-◌, ◌^◌, ◌<◌, ◌≤◌, Bool, true, false, cond, List, [], ◌∷◌, length, Some, None, Ok, Err, Option, Result, nat_le, slice_index}
+use Rattle.std.specs.Prelude.{◌≡◌, ℕ, zero, suc, ◌-◌, ◌^◌, ◌<◌, ◌≤◌, Bool, true, false, cond, List, length, Some, None, Ok, Err, Option, Result, nat_le, slice_index}
+use Rattle.form.specs.Answers.{checked}
 use Rattle.form.specs.Refusals.{Refusal, failed}
 use Rattle.stage.specs.declared.capability.PartialDecoderCapability.{PartialDecoderCapability}
 
@@ -44,18 +45,12 @@ pub record Laws {F G : Type 0} (bF : F → ℕ) (bG : G → ℕ) (s : Stage F G)
 
 -- more than 4,096 bytes at a place are refused with 12
 abbrev pub too_long : ℕ → Option ℕ
-too_long n = cond (nat_le n 4096) None (Some 12)
+too_long n = checked (nat_le n 4096) 12 None
 
 -- a count, none where a usize does not hold it
 abbrev pub Counted : ℕ → Option ℕ → Type 0
 Counted n (Some m) = m ≡ n
 Counted n None = 2 ^ 64 ≤ n
-
--- the element at a number, if there is one
-abbrev pub at : {X : Type 0} → List X → ℕ → Option X
-at [] k = None
-at (x ∷ xs) zero = Some x
-at (x ∷ xs) (suc k) = at xs k
 
 -- the first of the n numbers from i on at which p fails
 abbrev pub first_false : (ℕ → Bool) → ℕ → ℕ → Option ℕ
@@ -67,9 +62,9 @@ abbrev pub failing : {F G : Type 0} → Stage F G → F → ℕ → ℕ → List
 failing s f i j x = first_false (λ k. s.passes f k (s.undone f i k x)) i (j - i)
 
 -- with checks off no test counts
-abbrev pub checked : Bool → Option ℕ → Option ℕ
-checked true o = o
-checked false o = None
+abbrev pub tested : Bool → Option ℕ → Option ℕ
+tested true o = o
+tested false o = None
 
 -- a count of bytes, or the refusal that names a single
 abbrev pub answered : Option ℕ → ℕ → Result ℕ Refusal
@@ -78,7 +73,7 @@ answered (Some k) n = Err (failed k)
 
 -- what undoing answers: how many bytes there are then, or with checks on the first single whose test fails
 abbrev pub outcome : {F G : Type 0} → Stage F G → F → ℕ → ℕ → Bool → List ℕ → Result ℕ Refusal
-outcome s f i j checks x = answered (checked checks (failing s f i j x)) (s.size f j)
+outcome s f i j checks x = answered (tested checks (failing s f i j x)) (s.size f j)
 
 -- undoing is never refused with 15
 abbrev pub Unfailing : {F G : Type 0} → Stage F G → Type 0

@@ -2,6 +2,7 @@
 #![tactic(auto)]
 
 pub mod array_to_array;
+pub mod array_to_bytes;
 pub mod capability;
 pub mod codec;
 pub mod room;

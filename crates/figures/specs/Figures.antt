@@ -47,12 +47,13 @@ transposed = 1 ∷ 0 ∷ 4 ∷ 0 ∷ 2 ∷ 0 ∷ 5 ∷ 0 ∷ 3 ∷ 0 ∷ 6 ∷ 0
 abbrev most_significant_first : List ℕ
 most_significant_first = 0 ∷ 1 ∷ 0 ∷ 4 ∷ 0 ∷ 2 ∷ 0 ∷ 5 ∷ 0 ∷ 3 ∷ 0 ∷ 6 ∷ []
 
--- checksums of no bytes, of two words, of a word of ones and of three bytes; a stored checksum; a shuffle by 2 and back; differences
--- of integers, back, and of floats; a transposition, back, and its lengths; big, and back
+-- checksums of no bytes, of two words, of a word of ones and of three bytes; a stored checksum, and the length with one; a shuffle
+-- by 2 and back; differences of integers, back, and of floats; a transposition, back, and its lengths; big, and back
 abbrev computed : List (List ℕ)
 computed =
     (fletcher32 [] ∷ fletcher32 two_words ∷ fletcher32 (0xFF ∷ 0xFF ∷ []) ∷ fletcher32 (0x01 ∷ 0x00 ∷ 0x02 ∷ []) ∷ [])
     ∷ checksumming.encoded 4 two_words
+    ∷ (checksumming.coded 4092 ∷ [])
     ∷ (shuffling 2).encoded 6 three_elements
     ∷ (shuffling 2).decoded 6 by_columns
     ∷ differencing.encoded three_bytes (5 ∷ 3 ∷ 10 ∷ [])
@@ -69,6 +70,7 @@ abbrev worked : List (List ℕ)
 worked =
     (0x00000000 ∷ 0x00040003 ∷ 0xFFFFFFFF ∷ 0x04000300 ∷ [])
     ∷ (0x00 ∷ 0x01 ∷ 0x00 ∷ 0x02 ∷ 0x03 ∷ 0x00 ∷ 0x04 ∷ 0x00 ∷ [])
+    ∷ (4096 ∷ [])
     ∷ by_columns
     ∷ three_elements
     ∷ (5 ∷ 254 ∷ 7 ∷ [])

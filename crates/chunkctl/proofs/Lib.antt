@@ -1,2 +1,4 @@
 mod Called
+mod Listing
+mod Orders
 mod Seating

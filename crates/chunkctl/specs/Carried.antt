@@ -1,5 +1,6 @@
 -- What a command leaves and answers.
-use Rattle.std.specs.Prelude.{◌≡◌, ℕ, ◌-◌, ◌*◌, ◌<◌, ◌≤◌, Bool, true, false, List, ◌++◌, length, take, drop, replicate, Some, None, Ok, Err, vec_items, vec_len, Option, Result, MatchResult, OnErr}
+use Rattle.std.specs.Prelude.{◌≡◌, ℕ, ◌+◌, ◌-◌, ◌*◌, ◌<◌, ◌≤◌, Bool, true, false, List, ◌++◌, length, map, take, drop, replicate, Some, None, Ok, Err, vec_items, vec_len, Option, Result, OnErr}
+use Rattle.std.specs.List.{range_with_len}
 use Rattle.fletcher32.specs.Fletcher32.{fletcher32}
 use Rattle.form.specs.declared.fault.Fault.{Fault}
 use Rattle.form.specs.declared.array_form.Form.{Form}
@@ -7,17 +8,25 @@ use Rattle.form.specs.Refusals.{Refusal, refusal, plain}
 use Rattle.form.specs.Shapes.{product}
 use Rattle.form.specs.Types.{size_of_code}
 use Rattle.form.specs.Forms.{form_refusal, Made}
+use Rattle.stage.specs.declared.capability.PartialDecoderCapability.{PartialDecoderCapability}
+use Rattle.stage.specs.Stage.{Stage}
+use Rattle.stage.specs.Arrays.{array_bytes}
 use Rattle.stage.specs.Calls.{encode_answer, undo_answer}
+use Rattle.buffers.specs.declared.Buffers.{Buffers}
 use Rattle.chunkctl.specs.declared.trouble.Trouble.{Trouble}
 use Rattle.chunkctl.specs.declared.trouble.Trouble.TheVariants.{Refused, Error}
-use Rattle.chunkctl.specs.declared.trouble.Complaint.TheVariants.{NoStages}
+use Rattle.chunkctl.specs.declared.trouble.Complaint.{Complaint}
+use Rattle.chunkctl.specs.declared.trouble.Complaint.TheVariants.{NoMemory, NoStages, ByteLength, ArrayLength, NoForm}
 use Rattle.chunkctl.specs.declared.answer.Answer.{Answer}
 use Rattle.chunkctl.specs.declared.answer.Answer.TheVariants.{Done, Commands, Form as Formed, Output, Bytes, Singles as SinglesAre, Lengths as LengthsAre, Sum as SumIs}
 use Rattle.chunkctl.specs.declared.session.Session.{Session}
 use Rattle.chunkctl.specs.declared.command.Command.{Command}
 use Rattle.chunkctl.specs.declared.command.Command.TheVariants.{Help, Out, Work, Peek, Form as NewForm, Stages as NewStages, Singles, Lengths, Encode, Undo, Sum, Data}
-use Rattle.chunkctl.specs.declared.command.StageName.{StageName}
-use Rattle.chunkctl.specs.Seats.{Stages, stage_of, Seated, seats_of, names_refusal}
+use Rattle.chunkctl.specs.declared.command.Run.{Run}
+use Rattle.chunkctl.specs.declared.command.Undo.{Undo as Undoing}
+use Rattle.chunkctl.specs.declared.seats.Stages.{Stages}
+use Rattle.chunkctl.specs.declared.seats.Stages.TheVariants.{ArrayToArray, ArrayToBytes, BytesToBytes}
+use Rattle.chunkctl.specs.Seats.{array_stage, bytes_stage, byte_stage, run_refusal, Built}
 
 -- the line is no command, or makes no sense now
 abbrev pub IsError : Trouble → Type 0
@@ -36,6 +45,47 @@ Unrefused None P (Err t) = ⊥
 Unrefused (Some n) P (Ok a) = ⊥
 Unrefused (Some n) P (Err t) = IsRefused n t
 
+-- the bytes of an answer that has them
+abbrev pub bytes_of : Answer → Option (List ℕ)
+bytes_of Done = None
+bytes_of Commands = None
+bytes_of (Formed n m) = None
+bytes_of (Output n) = None
+bytes_of (Bytes v) = Some (vec_items v)
+bytes_of (SinglesAre v) = None
+bytes_of (LengthsAre v) = None
+bytes_of (SumIs n) = None
+
+-- what the singles of an answer can do, and its lengths
+abbrev pub singles_of : Answer → Option (List PartialDecoderCapability)
+singles_of Done = None
+singles_of Commands = None
+singles_of (Formed n m) = None
+singles_of (Output n) = None
+singles_of (Bytes v) = None
+singles_of (SinglesAre v) = Some (map (λ s. s.0) (vec_items v))
+singles_of (LengthsAre v) = None
+singles_of (SumIs n) = None
+
+abbrev pub lengths_of : Answer → Option (List ℕ)
+lengths_of Done = None
+lengths_of Commands = None
+lengths_of (Formed n m) = None
+lengths_of (Output n) = None
+lengths_of (Bytes v) = None
+lengths_of (SinglesAre v) = None
+lengths_of (LengthsAre v) = Some (vec_items v)
+lengths_of (SumIs n) = None
+
+-- buffers are set anew, or an error leaves all as they were
+abbrev pub OutputSet : ℕ → Buffers → Buffers → Result Answer Trouble → Type 0
+OutputSet n old new (Ok a) = (a ≡ Done) × (vec_items new.output ≡ replicate n 238) × (new.work ≡ old.work) × (new.scratch ≡ old.scratch)
+OutputSet n old new (Err t) = IsError t × (new ≡ old)
+
+abbrev pub WorkSet : ℕ → ℕ → Buffers → Buffers → Result Answer Trouble → Type 0
+WorkSet n m old new (Ok a) = (a ≡ Done) × (vec_len new.work ≡ n) × (vec_len new.scratch ≡ m) × (new.output ≡ old.output)
+WorkSet n m old new (Err t) = IsError t × (new ≡ old)
+
 -- a form that is taken is kept, and one that is refused leaves the earlier one
 abbrev pub FormSet : List ℕ → ℕ → List ℕ → Option Form → Result Answer Trouble → Type 0
 FormSet shape code fill new r =
@@ -43,29 +93,84 @@ FormSet shape code fill new r =
     (λ a. (a ≡ Formed (product shape) (product shape * size_of_code code)) × ((f : Form) × (new ≡ Some f) × Made shape code fill f)) r
 
 -- so are stages
-abbrev pub StagesSet : List StageName → Option Stages → Result Answer Trouble → Type 0
-StagesSet names new r = Unrefused (names_refusal 0 names) (λ a. (s : Stages) × (new ≡ Some s) × Seated names (seats_of s)) r
+abbrev pub StagesSet : Run → Option Stages → Result Answer Trouble → Type 0
+StagesSet run new r = Unrefused (run_refusal run) (λ a. (a ≡ Done) × ((s : Stages) × (new ≡ Some s) × Built run s)) r
+
+-- what is decoded: a length for stages over bytes, and the form for those over arrays
+abbrev pub length_of : Option ℕ → Result ℕ Complaint
+length_of (Some n) = Ok n
+length_of None = Err ByteLength
+
+abbrev pub form_of : Option ℕ → Option Form → Result Form Complaint
+form_of (Some n) form = Err ArrayLength
+form_of None None = Err NoForm
+form_of None (Some f) = Ok f
+
+-- where what is decoded is not told the call is an error
+abbrev pub Decoding : {F : Type 0} → Result F Complaint → (F → Result Answer Trouble → Type 0) → Result Answer Trouble → Type 0
+Decoding (Ok f) P r = P f r
+Decoding (Err c) P r = r ≡ Err (Error c)
+
+-- what the singles can do, unless there is no memory for that
+abbrev pub SinglesTold : List PartialDecoderCapability → Result Answer Trouble → Type 0
+SinglesTold singles (Ok a) = singles_of a ≡ Some singles
+SinglesTold singles (Err t) = t ≡ Error NoMemory
+
+abbrev pub SinglesAnswer : Option Stages → Result Answer Trouble → Type 0
+SinglesAnswer None r = r ≡ Err (Error NoStages)
+SinglesAnswer (Some (ArrayToArray s)) r = SinglesTold (array_stage s).singles r
+SinglesAnswer (Some (ArrayToBytes s)) r = SinglesTold (bytes_stage s).singles r
+SinglesAnswer (Some (BytesToBytes s)) r = SinglesTold (byte_stage s).singles r
+
+-- the length at every place, unless the form is refused or there is no memory for that
+abbrev pub LengthsTold : {F G : Type 0} → Stage F G → F → Result Answer Trouble → Type 0
+LengthsTold t f (Ok a) = (t.refusal f ≡ None) × (lengths_of a ≡ Some (map (t.size f) (range_with_len 0 (length t.singles + 1))))
+LengthsTold t f (Err (Refused e)) = (n : ℕ) × (t.refusal f ≡ Some n) × (refusal e ≡ plain n)
+LengthsTold t f (Err (Error c)) = c ≡ NoMemory
+
+abbrev pub LengthsAnswer : Option Stages → Option Form → Option ℕ → Result Answer Trouble → Type 0
+LengthsAnswer None form decoded r = r ≡ Err (Error NoStages)
+LengthsAnswer (Some (ArrayToArray s)) form decoded r = Decoding (form_of decoded form) (LengthsTold (array_stage s)) r
+LengthsAnswer (Some (ArrayToBytes s)) form decoded r = Decoding (form_of decoded form) (LengthsTold (bytes_stage s)) r
+LengthsAnswer (Some (BytesToBytes s)) form decoded r = Decoding (length_of decoded) (LengthsTold (byte_stage s)) r
 
 -- what a call of the library answers, and what it leaves in an output buffer that held EE
 abbrev pub Called : Result ℕ Refusal → List ℕ → ℕ → List ℕ → Result Answer Trouble → Type 0
 Called answer x size new (Ok a) = (n : ℕ) × (a ≡ Output n) × (answer ≡ Ok n) × (new ≡ x ++ drop n (replicate size 238))
 Called answer x size new (Err t) = (e : Fault) × (t ≡ Refused e) × (answer ≡ Err (refusal e)) × (new ≡ replicate size 238)
 
--- before any stages a call is an error, and leaves the buffer as it was
-abbrev pub TooEarly : List ℕ → List ℕ → Result Answer Trouble → Type 0
-TooEarly old new r = (r ≡ Err (Error NoStages)) × (new ≡ old)
+-- so of the calls of a stage, where f is decoded
+module _ {F G : Type 0} (weight : F → ℕ) (t : Stage F G) (f : F) where
+  abbrev pub EncodesBy : List ℕ → Buffers → Buffers → Result Answer Trouble → Type 0
+  EncodesBy input old new r =
+      Called (encode_answer weight t f input (vec_len old.output) (vec_len old.work) (vec_len old.scratch))
+      (t.encoded f input) (vec_len old.output) (vec_items new.output) r
 
-abbrev pub Encodes : Option Stages → List ℕ → List ℕ → ℕ → ℕ → List ℕ → Result Answer Trouble → Type 0
-Encodes None input old work scratch new r = TooEarly old new r
-Encodes (Some s) input old work scratch new r =
-    Called (encode_answer (λ n. n) (stage_of s) (length input) input (length old) work scratch)
-    ((stage_of s).encoded (length input) input) (length old) new r
+  abbrev pub UndoesBy : Undoing → Buffers → Buffers → Result Answer Trouble → Type 0
+  UndoesBy u old new r =
+      Called (undo_answer weight t f u.from u.to u.checks (vec_items u.input) (vec_len old.output) (vec_len old.work) (vec_len old.scratch))
+      (t.undone f u.from u.to (vec_items u.input)) (vec_len old.output) (vec_items new.output) r
 
-abbrev pub Undoes : Option Stages → ℕ → ℕ → ℕ → Bool → List ℕ → List ℕ → ℕ → ℕ → List ℕ → Result Answer Trouble → Type 0
-Undoes None decoded from to checks input old work scratch new r = TooEarly old new r
-Undoes (Some s) decoded from to checks input old work scratch new r =
-    Called (undo_answer (λ n. n) (stage_of s) decoded from to checks input (length old) work scratch)
-    ((stage_of s).undone decoded from to input) (length old) new r
+abbrev pub Encodes : Option Stages → Option Form → List ℕ → Buffers → Buffers → Result Answer Trouble → Type 0
+Encodes None form input old new r = r ≡ Err (Error NoStages)
+Encodes (Some (ArrayToArray s)) form input old new r = Decoding (form_of None form) (λ f. EncodesBy array_bytes (array_stage s) f input old new) r
+Encodes (Some (ArrayToBytes s)) form input old new r = Decoding (form_of None form) (λ f. EncodesBy array_bytes (bytes_stage s) f input old new) r
+Encodes (Some (BytesToBytes s)) form input old new r = EncodesBy (λ n. n) (byte_stage s) (length input) input old new r
+
+abbrev pub Undoes : Option Stages → Option Form → Undoing → Buffers → Buffers → Result Answer Trouble → Type 0
+Undoes None form u old new r = r ≡ Err (Error NoStages)
+Undoes (Some (ArrayToArray s)) form u old new r = Decoding (form_of u.decoded form) (λ f. UndoesBy array_bytes (array_stage s) f u old new) r
+Undoes (Some (ArrayToBytes s)) form u old new r = Decoding (form_of u.decoded form) (λ f. UndoesBy array_bytes (bytes_stage s) f u old new) r
+Undoes (Some (BytesToBytes s)) form u old new r = Decoding (length_of u.decoded) (λ n. UndoesBy (λ n. n) (byte_stage s) n u old new) r
+
+-- a call that is carried out or refused leaves the work buffers their lengths, and an error leaves every buffer as it was
+abbrev pub SameLengths : Buffers → Buffers → Type 0
+SameLengths old new = (vec_len new.work ≡ vec_len old.work) × (vec_len new.scratch ≡ vec_len old.scratch)
+
+abbrev pub Kept : Buffers → Buffers → Result Answer Trouble → Type 0
+Kept old new (Ok a) = SameLengths old new
+Kept old new (Err (Refused e)) = SameLengths old new
+Kept old new (Err (Error c)) = new ≡ old
 
 -- the commands that set the form, and the stages
 abbrev pub sets_form : Command → Bool
@@ -74,7 +179,7 @@ sets_form (Out n) = false
 sets_form (Work n m) = false
 sets_form Peek = false
 sets_form (NewForm shape code fill) = true
-sets_form (NewStages names) = false
+sets_form (NewStages run) = false
 sets_form Singles = false
 sets_form (Lengths n) = false
 sets_form (Encode bytes) = false
@@ -88,24 +193,13 @@ sets_stages (Out n) = false
 sets_stages (Work n m) = false
 sets_stages Peek = false
 sets_stages (NewForm shape code fill) = false
-sets_stages (NewStages names) = true
+sets_stages (NewStages run) = true
 sets_stages Singles = false
 sets_stages (Lengths n) = false
 sets_stages (Encode bytes) = false
 sets_stages (Undo u) = false
 sets_stages (Sum bytes) = false
 sets_stages (Data bytes) = false
-
--- the bytes of an answer that has them
-abbrev pub bytes_of : Answer → Option (List ℕ)
-bytes_of Done = None
-bytes_of Commands = None
-bytes_of (Formed n m) = None
-bytes_of (Output n) = None
-bytes_of (Bytes v) = Some (vec_items v)
-bytes_of (SinglesAre v) = None
-bytes_of (LengthsAre v) = None
-bytes_of (SumIs n) = None
 
 -- all but the last four bytes
 abbrev pub BeforeSum : List ℕ → Result Answer Trouble → Type 0
@@ -115,20 +209,19 @@ BeforeSum bytes (Err t) = (length bytes < 4) × IsRefused 13 t
 -- what each command leaves of a session s
 abbrev pub Ran : Command → Session → Session → Result Answer Trouble → Type 0
 Ran Help s t r = (r ≡ Ok Commands) × (t ≡ s)
-Ran (Out n) s t r = (t.form ≡ s.form) × (t.stages ≡ s.stages) × MatchResult r (λ _. vec_items t.buffers.output ≡ replicate n 238) (λ _. t ≡ s)
-Ran (Work n m) s t r =
-    (t.form ≡ s.form) × (t.stages ≡ s.stages) × MatchResult r (λ _. (vec_len t.buffers.work ≡ n) × (vec_len t.buffers.scratch ≡ m)) (λ _. t ≡ s)
+Ran (Out n) s t r = (t.form ≡ s.form) × (t.stages ≡ s.stages) × OutputSet n s.buffers t.buffers r
+Ran (Work n m) s t r = (t.form ≡ s.form) × (t.stages ≡ s.stages) × WorkSet n m s.buffers t.buffers r
 Ran Peek s t r = (r ≡ Ok (Output (vec_len s.buffers.output))) × (t ≡ s)
 Ran (NewForm shape code fill) s t r =
     FormSet (vec_items shape) code (vec_items fill) t.form r × OnErr r (t ≡ s) × (t.stages ≡ s.stages)
-Ran (NewStages names) s t r = StagesSet (vec_items names) t.stages r × OnErr r (t ≡ s) × (t.form ≡ s.form)
-Ran Singles s t r = t ≡ s
-Ran (Lengths n) s t r = t ≡ s
+Ran (NewStages run) s t r = StagesSet run t.stages r × OnErr r (t ≡ s) × (t.form ≡ s.form)
+Ran Singles s t r = SinglesAnswer s.stages r × (t ≡ s)
+Ran (Lengths decoded) s t r = LengthsAnswer s.stages s.form decoded r × (t ≡ s)
 Ran (Encode bytes) s t r =
     (t.form ≡ s.form) × (t.stages ≡ s.stages) ×
-    Encodes s.stages (vec_items bytes) (vec_items s.buffers.output) (vec_len s.buffers.work) (vec_len s.buffers.scratch) (vec_items t.buffers.output) r
+    Encodes s.stages s.form (vec_items bytes) s.buffers t.buffers r × Kept s.buffers t.buffers r
 Ran (Undo u) s t r =
     (t.form ≡ s.form) × (t.stages ≡ s.stages) ×
-    Undoes s.stages u.decoded u.from u.to u.checks (vec_items u.input) (vec_items s.buffers.output) (vec_len s.buffers.work) (vec_len s.buffers.scratch) (vec_items t.buffers.output) r
+    Undoes s.stages s.form u s.buffers t.buffers r × Kept s.buffers t.buffers r
 Ran (Sum bytes) s t r = (r ≡ Ok (SumIs (fletcher32 (vec_items bytes)))) × (t ≡ s)
 Ran (Data bytes) s t r = BeforeSum (vec_items bytes) r × (t ≡ s)

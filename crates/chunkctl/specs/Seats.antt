@@ -1,58 +1,134 @@
 -- Named stages, and the seats that they take.
-use Rattle.std.specs.Prelude.{◌≡◌, ℕ, ◌+◌, ◌-◌, ◌&&◌, List, [], ◌∷◌, ◌++◌, length, replicate, None, Option, nat_le, nat_lt}
+use Rattle.std.specs.Prelude.{◌≡◌, ℕ, ◌+◌, Bool, ◌&&◌, List, [], ◌∷◌, ◌++◌, length, take, drop, replicate, nat_eq, None, Option, nat_le, nat_lt, vec_items}
 use Rattle.std.specs.Option.{option_or}
+use Rattle.std.specs.List.{list_all, list_any, range_with_len}
+use Rattle.form.specs.declared.array_form.Form.{Form}
 use Rattle.form.specs.Answers.{checked}
 use Rattle.stage.specs.Stage.{Stage}
+use Rattle.stage.specs.Arrays.{array_bytes}
+use Rattle.stage.specs.Single.{single}
 use Rattle.pair.specs.Compose.{after}
 use Rattle.pair.specs.declared.Pair.{Pair}
+use Rattle.base_codecs.specs.declared.single.Single.{Single}
 use Rattle.base_codecs.specs.declared.chosen.Chosen.TheVariants.{First, Second}
 use Rattle.base_codecs.specs.Chosen.{empty_choice}
+use Rattle.array_codecs.specs.Chosen.{ArrayCodec, chosen_array}
 use Rattle.byte_codecs.specs.Chosen.{ByteCodec, chosen_stage}
-use Rattle.chunkctl.specs.declared.command.StageName.{StageName}
-use Rattle.chunkctl.specs.declared.command.StageName.TheVariants.{Shuffle as Shuffled, Fletcher32 as Summed}
+use Rattle.bytes_codec.specs.declared.bytes_codec.BytesCodec.{BytesCodec}
+use Rattle.bytes_codec.specs.ByteOrder.{byte_ordering}
+use Rattle.chunkctl.specs.declared.command.ArrayName.{ArrayName}
+use Rattle.chunkctl.specs.declared.command.ArrayName.TheVariants.{Transpose, Difference}
+use Rattle.chunkctl.specs.declared.command.ByteName.{ByteName}
+use Rattle.chunkctl.specs.declared.command.ByteName.TheVariants.{Shuffle, Fletcher32}
+use Rattle.chunkctl.specs.declared.command.Run.{Run}
+use Rattle.chunkctl.specs.declared.command.Run.TheVariants.{ArrayToArray as ArrayNames, ArrayToBytes as BytesName, BytesToBytes as ByteNames}
+use Rattle.chunkctl.specs.declared.seats.Stages.{Stages}
+use Rattle.chunkctl.specs.declared.seats.Stages.TheVariants.{ArrayToArray, ArrayToBytes, BytesToBytes}
 
-abbrev pub Stages : Type 0
-Stages = Pair ByteCodec (Pair ByteCodec (Pair ByteCodec ByteCodec))
+abbrev pub ArrayStages : Type 0
+ArrayStages = Pair ArrayCodec ArrayCodec
 
--- what the four seats mean together
-abbrev pub stage_of : Stages → Stage ℕ ℕ
-stage_of s =
+abbrev pub ByteStages : Type 0
+ByteStages = Pair ByteCodec (Pair ByteCodec (Pair ByteCodec ByteCodec))
+
+-- what the seats mean together
+abbrev pub array_stage : ArrayStages → Stage Form Form
+array_stage s = after (chosen_array s.outer) (chosen_array s.inner)
+
+abbrev pub bytes_stage : Single BytesCodec → Stage Form ℕ
+bytes_stage s = single array_bytes (λ n. n) (byte_ordering s.codec.endian)
+
+abbrev pub byte_stage : ByteStages → Stage ℕ ℕ
+byte_stage s =
     after (chosen_stage s.outer)
     (after (chosen_stage s.inner.outer) (after (chosen_stage s.inner.inner.outer) (chosen_stage s.inner.inner.inner)))
 
 -- the seats, the innermost first
-abbrev pub seats_of : Stages → List ByteCodec
-seats_of s = s.inner.inner.inner ∷ (s.inner.inner.outer ∷ (s.inner.outer ∷ (s.outer ∷ [])))
+abbrev pub array_seats : ArrayStages → List ArrayCodec
+array_seats s = s.inner ∷ (s.outer ∷ [])
+
+abbrev pub byte_seats : ByteStages → List ByteCodec
+byte_seats s = s.inner.inner.inner ∷ (s.inner.inner.outer ∷ (s.inner.outer ∷ (s.outer ∷ [])))
 
 -- the codec is the stage with the name
-abbrev pub Named : StageName → ByteCodec → Type 0
-Named (Shuffled e) (Second (First c)) = c.codec.elementsize ≡ e
-Named (Shuffled e) (First c) = ⊥
-Named (Shuffled e) (Second (Second c)) = ⊥
-Named Summed (Second (Second c)) = Unit {0}
-Named Summed (First c) = ⊥
-Named Summed (Second (First c)) = ⊥
+abbrev pub ArrayNamed : ArrayName → ArrayCodec → Type 0
+ArrayNamed (Transpose order) (Second (First c)) = (c.codec.dims ≡ length (vec_items order)) × (take c.codec.dims c.codec.order ≡ vec_items order)
+ArrayNamed (Transpose order) (First c) = ⊥
+ArrayNamed (Transpose order) (Second (Second c)) = ⊥
+ArrayNamed Difference (Second (Second c)) = Unit {0}
+ArrayNamed Difference (First c) = ⊥
+ArrayNamed Difference (Second (First c)) = ⊥
 
-abbrev pub AllNamed : List StageName → List ByteCodec → Type 0
-AllNamed [] [] = Unit {0}
-AllNamed [] (c ∷ cs) = ⊥
-AllNamed (n ∷ ns) [] = ⊥
-AllNamed (n ∷ ns) (c ∷ cs) = Named n c × AllNamed ns cs
+abbrev pub ByteNamed : ByteName → ByteCodec → Type 0
+ByteNamed (Shuffle e) (Second (First c)) = c.codec.elementsize ≡ e
+ByteNamed (Shuffle e) (First c) = ⊥
+ByteNamed (Shuffle e) (Second (Second c)) = ⊥
+ByteNamed Fletcher32 (Second (Second c)) = Unit {0}
+ByteNamed Fletcher32 (First c) = ⊥
+ByteNamed Fletcher32 (Second (First c)) = ⊥
 
-abbrev pub name_refusal : StageName → Option ℕ
-name_refusal (Shuffled e) = checked (nat_le 1 e && nat_le e 4096) 8 None
-name_refusal Summed = None
+-- each axis is among the entries
+abbrev pub has_axes : List ℕ → Bool
+has_axes order = list_all (λ axis. list_any (λ entry. nat_eq entry axis) order) (range_with_len 0 (length order))
 
--- why a stage is not added where so many seats are taken
-abbrev pub add_refusal : ℕ → StageName → Option ℕ
-add_refusal taken name = checked (nat_lt taken 4) 6 (name_refusal name)
+-- the entries are the axes of an array, each of them once
+abbrev pub is_order : List ℕ → Bool
+is_order order = (nat_le 1 (length order) && nat_le (length order) 4) && has_axes order
+
+-- why there is no stage with the name
+abbrev pub array_refusal : ArrayName → Option ℕ
+array_refusal (Transpose order) = checked (is_order (vec_items order)) 7 None
+array_refusal Difference = None
+
+abbrev pub byte_refusal : ByteName → Option ℕ
+byte_refusal (Shuffle e) = checked (nat_le 1 e && nat_le e 4096) 8 None
+byte_refusal Fletcher32 = None
+
+-- why a stage is not added where so many of the seats are taken
+abbrev pub add_refusal : ℕ → ℕ → Option ℕ → Option ℕ
+add_refusal seats taken own = checked (nat_lt taken seats) 6 own
 
 -- the same of stages that are added one by one
-abbrev pub names_refusal : ℕ → List StageName → Option ℕ
-names_refusal taken [] = None
-names_refusal taken (n ∷ ns) = option_or (add_refusal taken n) (names_refusal (taken + 1) ns)
+abbrev pub names_refusal : {N : Type 0} → (N → Option ℕ) → ℕ → ℕ → List N → Option ℕ
+names_refusal own seats taken [] = None
+names_refusal own seats taken (n ∷ ns) = option_or (add_refusal seats taken (own n)) (names_refusal own seats (taken + 1) ns)
 
--- the stages have the first seats in their order, and the others are empty
-abbrev pub Seated : List StageName → List ByteCodec → Type 0
-Seated names seats =
-    (cs : List ByteCodec) × AllNamed names cs × (seats ≡ cs ++ replicate (4 - length names) empty_choice)
+abbrev pub AllNamed : {N C : Type 0} → (N → C → Type 0) → List N → List C → Type 0
+AllNamed Is [] [] = Unit {0}
+AllNamed Is [] (c ∷ cs) = ⊥
+AllNamed Is (n ∷ ns) [] = ⊥
+AllNamed Is (n ∷ ns) (c ∷ cs) = Is n c × AllNamed Is ns cs
+
+-- the stages have the first seats in their order, and the others are as they were
+abbrev pub Seated : {N C : Type 0} → (N → C → Type 0) → List N → List C → List C → Type 0
+Seated {C = C} Is names old new = (cs : List C) × AllNamed Is names cs × (new ≡ cs ++ drop (length names) old)
+
+-- two seats for stages over arrays and four for those over bytes, at first all of them empty
+abbrev pub array_names_refusal : List ArrayName → Option ℕ
+array_names_refusal names = names_refusal array_refusal 2 0 names
+
+abbrev pub ArraysSeated : List ArrayName → ArrayStages → Type 0
+ArraysSeated names s = Seated ArrayNamed names (replicate 2 empty_choice) (array_seats s)
+
+abbrev pub byte_names_refusal : List ByteName → Option ℕ
+byte_names_refusal names = names_refusal byte_refusal 4 0 names
+
+abbrev pub BytesSeated : List ByteName → ByteStages → Type 0
+BytesSeated names s = Seated ByteNamed names (replicate 4 empty_choice) (byte_seats s)
+
+-- the same of a run of any kind
+abbrev pub run_refusal : Run → Option ℕ
+run_refusal (ArrayNames names) = array_names_refusal (vec_items names)
+run_refusal (BytesName endian) = None
+run_refusal (ByteNames names) = byte_names_refusal (vec_items names)
+
+abbrev pub Built : Run → Stages → Type 0
+Built (ArrayNames names) (ArrayToArray s) = ArraysSeated (vec_items names) s
+Built (ArrayNames names) (ArrayToBytes s) = ⊥
+Built (ArrayNames names) (BytesToBytes s) = ⊥
+Built (BytesName endian) (ArrayToBytes s) = s.codec.endian ≡ endian
+Built (BytesName endian) (ArrayToArray s) = ⊥
+Built (BytesName endian) (BytesToBytes s) = ⊥
+Built (ByteNames names) (BytesToBytes s) = BytesSeated (vec_items names) s
+Built (ByteNames names) (ArrayToArray s) = ⊥
+Built (ByteNames names) (ArrayToBytes s) = ⊥

@@ -4,7 +4,7 @@ use Rattle.form.specs.Refusals.{fault_text}
 use Rattle.stage.specs.declared.capability.PartialDecoderCapability.{PartialDecoderCapability}
 use Rattle.text.specs.Hex.{hex_of}
 use Rattle.chunkctl.specs.declared.trouble.Complaint.{Complaint}
-use Rattle.chunkctl.specs.declared.trouble.Complaint.TheVariants.{NoMemory, LineTooLong, UnknownCommand, WordCount, Number, Hex, Shape, DataType, Stage, Switch, BufferTooLarge, NoStages}
+use Rattle.chunkctl.specs.declared.trouble.Complaint.TheVariants.{NoMemory, LineTooLong, UnknownCommand, WordCount, Number, Hex, Shape, DataType, Stage, StageKinds, Switch, BufferTooLarge, NoStages, ByteLength, ArrayLength, NoForm}
 use Rattle.chunkctl.specs.declared.trouble.Trouble.{Trouble}
 use Rattle.chunkctl.specs.declared.trouble.Trouble.TheVariants.{Refused, Error}
 use Rattle.chunkctl.specs.declared.answer.Single.{Single}
@@ -47,9 +47,13 @@ complaint_text Hex = codes "lower-case hexadecimal is expected, or -"
 complaint_text Shape = codes "lengths joined by x are expected, or -"
 complaint_text DataType = codes "no such data type"
 complaint_text Stage = codes "no such stage"
+complaint_text StageKinds = codes "array stages, one bytes stage or byte stages are expected"
 complaint_text Switch = codes "on or off is expected"
 complaint_text BufferTooLarge = codes "buffer too large"
 complaint_text NoStages = codes "no stages yet"
+complaint_text ByteLength = codes "stages over bytes take a number for the decoded length"
+complaint_text ArrayLength = codes "stages over arrays take - for the decoded length"
+complaint_text NoForm = codes "no form yet"
 
 abbrev pub trouble_text : Trouble → List ℕ
 trouble_text (Refused e) = fault_text e

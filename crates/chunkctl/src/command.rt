@@ -1,16 +1,78 @@
 // The commands, and how a line says one.
 use crate::trouble::Complaint;
+use bytes_codec::bytes_codec::Endianness;
 use form::data_type::DataType;
 use std::alloc::Global;
 use text::hex::parse_hex;
 use text::number::parse_number;
 use text::words::{cut, next_word};
 
-// A stage as it is named, before the library has taken it.
+// A stage from arrays to arrays as it is named, before the library has taken it.
+#[derive(Drop)]
+pub enum ArrayName {
+    // an order that may be none: the library refuses that
+    Transpose(Vec<usize>),
+    Difference,
+}
+
+// The same of one from bytes to bytes.
 #[derive(Clone, Copy)]
-pub enum StageName {
+pub enum ByteName {
     Shuffle(usize),
     Fletcher32,
+}
+
+// A stage of any kind.
+#[derive(Drop)]
+pub enum StageName {
+    ArrayToArray(ArrayName),
+    // the byte order, if it has one
+    ArrayToBytes(Option<Endianness>),
+    BytesToBytes(ByteName),
+}
+
+impl StageName {
+    fn array_to_array(self) -> Result<ArrayName, Complaint> {
+        match self {
+            StageName::ArrayToArray(name) => Ok(name),
+            _ => Err(Complaint::StageKinds),
+        }
+    }
+
+    fn bytes_to_bytes(self) -> Result<ByteName, Complaint> {
+        match self {
+            StageName::BytesToBytes(name) => Ok(name),
+            _ => Err(Complaint::StageKinds),
+        }
+    }
+}
+
+// Stages of one kind, in encode order.
+#[derive(Drop)]
+pub enum Run {
+    ArrayToArray(Vec<ArrayName>),
+    // of which there is one alone
+    ArrayToBytes(Option<Endianness>),
+    BytesToBytes(Vec<ByteName>),
+}
+
+impl Run {
+    // The stages as a run of the kind of the first; no stages are a run over bytes.
+    fn of(heap: Global, names: Vec<StageName>) -> Result<Run, Complaint> {
+        match names.as_slice() {
+            [StageName::ArrayToArray(_), ..] => names
+                .into_iter()
+                .map(StageName::array_to_array)
+                .try_collect(heap)
+                .map(Run::ArrayToArray),
+            [StageName::ArrayToBytes(endian)] => Ok(Run::ArrayToBytes(*endian)),
+            _ => names
+                .into_iter()
+                .map(StageName::bytes_to_bytes)
+                .try_collect(heap)
+                .map(Run::BytesToBytes),
+        }
+    }
 }
 
 #[derive(Drop)]
@@ -28,11 +90,10 @@ pub enum Command {
         code: usize,
         fill: Vec<u8>,
     },
-    // in encode order
-    Stages(Vec<StageName>),
+    Stages(Run),
     Singles,
-    // the decoded length
-    Lengths(usize),
+    // the decoded length, where the stages are over bytes
+    Lengths(Option<usize>),
     Encode(Vec<u8>),
     Undo(Undo),
     Sum(Vec<u8>),
@@ -41,8 +102,8 @@ pub enum Command {
 
 #[derive(Drop)]
 pub struct Undo {
-    // the decoded length
-    pub decoded: usize,
+    // the decoded length, where the stages are over bytes
+    pub decoded: Option<usize>,
     pub from: usize,
     pub to: usize,
     pub checks: bool,
@@ -71,20 +132,11 @@ impl<'a> Words<'a> {
         parse_hex(self.heap, self.next()?)?.ok_or(Complaint::Hex)
     }
 
-    // The parts of the next word that a separator joins, as `parse` reads each, or none for `-`.
-    fn list<T: Drop, F: Fn(&[u8]) -> Result<T, Complaint> + Drop>(
-        &mut self,
-        separator: u8,
-        parse: F,
-    ) -> Result<Vec<T>, Complaint>
-        requires { (f : F) (a : _) → F.FnMut.pre f a }
-    {
+    // A decoded length, or none for `-`.
+    fn decoded(&mut self) -> Result<Option<usize>, Complaint> {
         match self.next()? {
-            b"-" => Ok(Vec::new(self.heap)),
-            word => word
-                .split(|b| *b == separator)
-                .map(parse)
-                .try_collect(self.heap),
+            b"-" => Ok(None),
+            word => Ok(Some(parse_size(word).ok_or(Complaint::Number)?)),
         }
     }
 
@@ -98,6 +150,21 @@ impl<'a> Words<'a> {
 
 fn parse_size(word: &[u8]) -> Option<usize> {
     Some(parse_number(word)? as usize)
+}
+
+// The parts of a word that a separator joins, as `parse` reads each, or none for `-`.
+fn parse_list<T: Drop, F: Fn(&[u8]) -> Result<T, Complaint> + Drop>(
+    heap: Global,
+    word: &[u8],
+    separator: u8,
+    parse: F,
+) -> Result<Vec<T>, Complaint>
+    requires { (f : F) (a : _) → F.FnMut.pre f a }
+{
+    match word {
+        b"-" => Ok(Vec::new(heap)),
+        _ => word.split(|b| *b == separator).map(parse).try_collect(heap),
+    }
 }
 
 fn parse_length(word: &[u8]) -> Result<usize, Complaint> {
@@ -125,15 +192,43 @@ fn parse_type(word: &[u8]) -> Result<usize, Complaint> {
     Ok(usize::from(data_type))
 }
 
-fn parse_stage(word: &[u8]) -> Result<StageName, Complaint> {
-    match cut(word, b':') {
-        (b"shuffle", Some(size)) => {
-            let size = parse_size(size).ok_or(Complaint::Stage)?;
-            Ok(StageName::Shuffle(size))
-        }
-        (b"fletcher32", None) => Ok(StageName::Fletcher32),
+// A number in the word of a stage.
+fn parse_parameter(word: &[u8]) -> Result<usize, Complaint> {
+    parse_size(word).ok_or(Complaint::Stage)
+}
+
+// A byte order, or none.
+fn parse_endian(word: &[u8]) -> Result<Option<Endianness>, Complaint> {
+    match word {
+        b"little" => Ok(Some(Endianness::Little)),
+        b"big" => Ok(Some(Endianness::Big)),
+        b"none" => Ok(None),
         _ => Err(Complaint::Stage),
     }
+}
+
+fn parse_stage(heap: Global, word: &[u8]) -> Result<StageName, Complaint> {
+    match cut(word, b':') {
+        (b"transpose", Some(order)) => {
+            let order = parse_list(heap, order, b',', parse_parameter)?;
+            Ok(StageName::ArrayToArray(ArrayName::Transpose(order)))
+        }
+        (b"difference", None) => Ok(StageName::ArrayToArray(ArrayName::Difference)),
+        (b"bytes", Some(endian)) => Ok(StageName::ArrayToBytes(parse_endian(endian)?)),
+        (b"shuffle", Some(size)) => {
+            let size = parse_parameter(size)?;
+            Ok(StageName::BytesToBytes(ByteName::Shuffle(size)))
+        }
+        (b"fletcher32", None) => Ok(StageName::BytesToBytes(ByteName::Fletcher32)),
+        _ => Err(Complaint::Stage),
+    }
+}
+
+fn parse_run(heap: Global, word: &[u8]) -> Result<Run, Complaint> {
+    Run::of(
+        heap,
+        parse_list(heap, word, b'+', |stage| parse_stage(heap, stage))?,
+    )
 }
 
 fn parse_switch(word: &[u8]) -> Result<bool, Complaint> {
@@ -146,7 +241,7 @@ fn parse_switch(word: &[u8]) -> Result<bool, Complaint> {
 
 fn parse_undo(words: &mut Words<'_>) -> Result<Undo, Complaint> {
     Ok(Undo {
-        decoded: words.number()?,
+        decoded: words.decoded()?,
         from: words.number()?,
         to: words.number()?,
         checks: parse_switch(words.next()?)?,
@@ -165,13 +260,13 @@ fn parse_words(name: &[u8], words: &mut Words<'_>) -> Result<Command, Complaint>
         },
         b"peek" => Command::Peek,
         b"form" => Command::Form {
-            shape: words.list(b'x', parse_length)?,
+            shape: parse_list(words.heap, words.next()?, b'x', parse_length)?,
             code: parse_type(words.next()?)?,
             fill: words.hex()?,
         },
-        b"stages" => Command::Stages(words.list(b'+', parse_stage)?),
+        b"stages" => Command::Stages(parse_run(words.heap, words.next()?)?),
         b"singles" => Command::Singles,
-        b"lengths" => Command::Lengths(words.number()?),
+        b"lengths" => Command::Lengths(words.decoded()?),
         b"encode" => Command::Encode(words.hex()?),
         b"undo" => Command::Undo(parse_undo(words)?),
         b"sum" => Command::Sum(words.hex()?),

@@ -1,9 +1,9 @@
 // What is kept from line to line, and how a command is carried out.
 ghost use Rattle.std.specs.Prelude.{◌≡◌, ◌<◌, false, ◌&&◌, length, replicate, is_ok, Some, None, Ok, Err, vec_len, vec_items, IfOk, OnErr};
-ghost use Rattle.chunkctl.specs.Carried.{IsError, FormSet, StagesSet, Encodes, Undoes, BeforeSum, Ran, sets_form, sets_stages};
+ghost use Rattle.chunkctl.specs.Carried.{IsError, OutputSet, WorkSet, FormSet, StagesSet, length_of, form_of, SinglesTold, SinglesAnswer, LengthsTold, LengthsAnswer, Kept, EncodesBy, UndoesBy, Encodes, Undoes, BeforeSum, Ran, sets_form, sets_stages};
 
 use crate::answer::{Answer, Single};
-use crate::command::{Command, StageName, Undo};
+use crate::command::{Command, Run, Undo};
 use crate::seats::{Stages, built};
 use crate::trouble::{Complaint, Trouble};
 use buffers::Buffers;
@@ -37,7 +37,7 @@ fn buffer(heap: Global, size: usize, value: u8) -> Result<Vec<u8>, Trouble>
 
 // What a command needs of the session is lent to it part by part, so that its parameters say what it can change.
 fn set_output(buffers: &mut Buffers, heap: Global, size: usize) -> Result<Answer, Trouble>
-    ensures { elim result [ Ok a ↦ buffers.new.output.items ≡ replicate size 238 | Err t ↦ IsError t × (buffers.new ≡ buffers.old) ] }
+    ensures { OutputSet size buffers.old buffers.new result }
 {
     buffers.output = buffer(heap, size, FRESH)?;
     Ok(Answer::Done)
@@ -49,7 +49,7 @@ fn set_work(
     first: usize,
     second: usize,
 ) -> Result<Answer, Trouble>
-    ensures { elim result [ Ok a ↦ (vec_len buffers.new.work ≡ first) × (vec_len buffers.new.scratch ≡ second) | Err t ↦ IsError t × (buffers.new ≡ buffers.old) ] }
+    ensures { WorkSet first second buffers.old buffers.new result }
 {
     let work = buffer(heap, first, 0)?;
     buffers.scratch = buffer(heap, second, 0)?;
@@ -72,11 +72,11 @@ fn set_form(
     Ok(Answer::Form(made.elements(), made.bytes()))
 }
 
-fn set_stages(stages: &mut Option<Stages>, names: &[StageName]) -> Result<Answer, Trouble>
-    ensures answer { StagesSet names.now stages.new result }
+fn set_stages(stages: &mut Option<Stages>, run: &Run) -> Result<Answer, Trouble>
+    ensures answer { StagesSet run.now stages.new result }
     ensures same { OnErr result (stages.new ≡ stages.old) }
 {
-    *stages = Some(built(names)?);
+    *stages = Some(built(run)?);
     Ok(Answer::Done)
 }
 
@@ -87,49 +87,147 @@ fn chosen(stages: &Option<Stages>) -> Result<&Stages, Complaint>
     stages.as_ref().ok_or(Complaint::NoStages)
 }
 
+// The decoded length, which the words have where the stages are over bytes.
+fn length_of(decoded: Option<usize>) -> Result<usize, Complaint>
+    ensures { result ≡ length_of decoded }
+{
+    decoded.ok_or(Complaint::ByteLength)
+}
+
+// The form of a decoded array, which the session has: the words have no length then.
+fn form_of(decoded: Option<usize>, form: &Option<Form>) -> Result<Form, Complaint>
+    ensures { result ≡ form_of decoded form.now }
+{
+    if decoded.is_some() {
+        return Err(Complaint::ArrayLength);
+    }
+    form.ok_or(Complaint::NoForm)
+}
+
+// How many singles there are, if there is memory for a list of so many.
+fn counted<C: Codec>(codec: &C) -> Result<usize, Complaint>
+    ensures { elim result [ Ok n ↦ n ≡ length (C.Codec.meaning codec.now).singles | Err c ↦ c ≡ Complaint.NoMemory ] }
+{
+    codec.singles().ok_or(Complaint::NoMemory)
+}
+
 // What each single can read and decode, in decode order.
-fn singles(heap: Global, stages: &Option<Stages>) -> Result<Answer, Trouble> {
-    let stages = chosen(stages)?;
-    let found = (0..4)
-        .map_while(|single| stages.capability(single).ok())
-        .map(Single)
-        .collect(heap)?;
+fn singles_by<C: Codec>(heap: Global, codec: &C) -> Result<Answer, Trouble>
+    ensures { SinglesTold (C.Codec.meaning codec.now).singles result }
+{
+    let mut found = Vec::new(heap);
+    for single in 0..counted(codec)? {
+        found.push(Single(codec.capability(single)?))?;
+    }
     Ok(Answer::Singles(found))
 }
 
-// The length at every place, if the decoded length is taken.
-fn lengths(heap: Global, stages: &Option<Stages>, decoded: usize) -> Result<Answer, Trouble> {
-    let stages = chosen(stages)?;
-    stages.size(&decoded, 0)?;
-    let lengths = (0..5)
-        .map_while(|place| stages.size(&decoded, place).ok())
-        .collect(heap)?;
+fn singles(heap: Global, stages: &Option<Stages>) -> Result<Answer, Trouble>
+    ensures { SinglesAnswer stages.now result }
+{
+    match chosen(stages)? {
+        Stages::ArrayToArray(codec) => singles_by(heap, codec),
+        Stages::ArrayToBytes(codec) => singles_by(heap, codec),
+        Stages::BytesToBytes(codec) => singles_by(heap, codec),
+    }
+}
+
+// The length at every place, if what is decoded is taken.
+fn lengths_by<C: Codec>(heap: Global, codec: &C, decoded: &C::Decoded) -> Result<Answer, Trouble>
+    ensures { LengthsTold (C.Codec.meaning codec.now) decoded.now result }
+{
+    let mut lengths = Vec::new(heap);
+    lengths.push(codec.size(decoded, 0)?)?;
+    for single in 0..counted(codec)? {
+        lengths.push(codec.size(decoded, single + 1)?)?;
+    }
     Ok(Answer::Lengths(lengths))
 }
 
-fn encode(stages: &Option<Stages>, buffers: &mut Buffers, input: &[u8]) -> Result<Answer, Trouble>
-    ensures { Encodes stages.now input.now buffers.old.output.items (vec_len buffers.old.work) (vec_len buffers.old.scratch) buffers.new.output.items result }
+fn lengths(
+    heap: Global,
+    stages: &Option<Stages>,
+    form: &Option<Form>,
+    decoded: Option<usize>,
+) -> Result<Answer, Trouble>
+    ensures { LengthsAnswer stages.now form.now decoded result }
 {
-    let stages = chosen(stages)?;
+    match chosen(stages)? {
+        Stages::ArrayToArray(codec) => lengths_by(heap, codec, &form_of(decoded, form)?),
+        Stages::ArrayToBytes(codec) => lengths_by(heap, codec, &form_of(decoded, form)?),
+        Stages::BytesToBytes(codec) => lengths_by(heap, codec, &length_of(decoded)?),
+    }
+}
+
+fn encode_by<C: Codec>(
+    codec: &C,
+    decoded: &C::Decoded,
+    buffers: &mut Buffers,
+    input: &[u8],
+) -> Result<Answer, Trouble>
+    ensures kept { Kept buffers.old buffers.new result }
+    ensures answer { EncodesBy C.Decoded.Representation.weight (C.Codec.meaning codec.now) decoded.now input.now buffers.old buffers.new result }
+{
     buffers.output.fill(FRESH);
-    let count = buffers.encode(stages, &input.len(), input)?;
+    let count = buffers.encode(codec, decoded, input)?;
     Ok(Answer::Output(count))
 }
 
-fn undo(stages: &Option<Stages>, buffers: &mut Buffers, undo: &Undo) -> Result<Answer, Trouble>
-    ensures { Undoes stages.now undo.now.decoded undo.now.from undo.now.to undo.now.checks undo.now.input.items buffers.old.output.items (vec_len buffers.old.work) (vec_len buffers.old.scratch) buffers.new.output.items result }
+fn encode(
+    stages: &Option<Stages>,
+    form: &Option<Form>,
+    buffers: &mut Buffers,
+    input: &[u8],
+) -> Result<Answer, Trouble>
+    ensures kept { Kept buffers.old buffers.new result }
+    ensures answer { Encodes stages.now form.now input.now buffers.old buffers.new result }
 {
-    let stages = chosen(stages)?;
+    match chosen(stages)? {
+        Stages::ArrayToArray(codec) => encode_by(codec, &form_of(None, form)?, buffers, input),
+        Stages::ArrayToBytes(codec) => encode_by(codec, &form_of(None, form)?, buffers, input),
+        Stages::BytesToBytes(codec) => encode_by(codec, &input.len(), buffers, input),
+    }
+}
+
+fn undo_by<C: Codec>(
+    codec: &C,
+    decoded: &C::Decoded,
+    buffers: &mut Buffers,
+    undo: &Undo,
+) -> Result<Answer, Trouble>
+    ensures kept { Kept buffers.old buffers.new result }
+    ensures answer { UndoesBy C.Decoded.Representation.weight (C.Codec.meaning codec.now) decoded.now undo.now buffers.old buffers.new result }
+{
     buffers.output.fill(FRESH);
     let count = buffers.undo(
-        stages,
-        &undo.decoded,
+        codec,
+        decoded,
         undo.from,
         undo.to,
         undo.checks,
         undo.input.as_slice(),
     )?;
     Ok(Answer::Output(count))
+}
+
+fn undo(
+    stages: &Option<Stages>,
+    form: &Option<Form>,
+    buffers: &mut Buffers,
+    undo: &Undo,
+) -> Result<Answer, Trouble>
+    ensures kept { Kept buffers.old buffers.new result }
+    ensures answer { Undoes stages.now form.now undo.now buffers.old buffers.new result }
+{
+    match chosen(stages)? {
+        Stages::ArrayToArray(codec) => {
+            undo_by(codec, &form_of(undo.decoded, form)?, buffers, undo)
+        }
+        Stages::ArrayToBytes(codec) => {
+            undo_by(codec, &form_of(undo.decoded, form)?, buffers, undo)
+        }
+        Stages::BytesToBytes(codec) => undo_by(codec, &length_of(undo.decoded)?, buffers, undo),
+    }
 }
 
 // The bytes before the last four.
@@ -173,11 +271,20 @@ impl Session {
             Command::Form { shape, code, fill } => {
                 set_form(&mut self.form, shape.as_slice(), code, fill.as_slice())
             }
-            Command::Stages(names) => set_stages(&mut self.stages, names.as_slice()),
+            Command::Stages(run) => set_stages(&mut self.stages, &run),
             Command::Singles => singles(heap, &self.stages),
-            Command::Lengths(decoded) => lengths(heap, &self.stages, decoded),
-            Command::Encode(input) => encode(&self.stages, &mut self.buffers, input.as_slice()),
-            Command::Undo(request) => undo(&self.stages, &mut self.buffers, &request),
+            Command::Lengths(decoded) => lengths(heap, &self.stages, &self.form, decoded),
+            Command::Encode(input) => {
+                encode(
+                    &self.stages,
+                    &self.form,
+                    &mut self.buffers,
+                    input.as_slice(),
+                )
+            }
+            Command::Undo(request) => {
+                undo(&self.stages, &self.form, &mut self.buffers, &request)
+            }
             Command::Sum(bytes) => Ok(Answer::Sum(h5_checksum_fletcher32(bytes.as_slice()))),
             Command::Data(bytes) => before_checksum(bytes),
         }

@@ -5,7 +5,7 @@ ghost use Rattle.chunkctl.specs.declared.trouble.Complaint.TheVariants.{NoMemory
 ghost use Rattle.chunkctl.specs.Shown.{complaint_text, trouble_text};
 
 use form::fault::Fault;
-use std::alloc::AllocError;
+use std::alloc::{AllocError, AllocFailed};
 use std::fmt;
 
 // What is wrong with a line, or with its moment.
@@ -20,9 +20,13 @@ pub enum Complaint {
     Shape,
     DataType,
     Stage,
+    StageKinds,
     Switch,
     BufferTooLarge,
     NoStages,
+    ByteLength,
+    ArrayLength,
+    NoForm,
 }
 
 impl fmt::Display for Complaint {
@@ -39,9 +43,13 @@ impl fmt::Display for Complaint {
             Complaint::Shape => "lengths joined by x are expected, or -",
             Complaint::DataType => "no such data type",
             Complaint::Stage => "no such stage",
+            Complaint::StageKinds => "array stages, one bytes stage or byte stages are expected",
             Complaint::Switch => "on or off is expected",
             Complaint::BufferTooLarge => "buffer too large",
             Complaint::NoStages => "no stages yet",
+            Complaint::ByteLength => "stages over bytes take a number for the decoded length",
+            Complaint::ArrayLength => "stages over arrays take - for the decoded length",
+            Complaint::NoForm => "no form yet",
         })
     }
 }
@@ -98,5 +106,14 @@ impl From<AllocError> for Trouble {
 
     fn from(_e: AllocError) -> Trouble {
         Trouble::Error(Complaint::NoMemory)
+    }
+}
+
+// The value for which there is no memory is dropped.
+impl<T: Drop> From<AllocFailed<T>> for Trouble {
+    ghost from_gives = { λ _ r. r ≡ Error NoMemory };
+
+    fn from(failed: AllocFailed<T>) -> Trouble {
+        Trouble::from(AllocError::from(failed))
     }
 }

@@ -1,3 +1,4 @@
 pub mod Kind
 pub mod Line
+pub mod Params
 pub mod Tally

@@ -1,12 +1,12 @@
 -- How a line says a vector.
-use Rattle.std.specs.Prelude.{◌≡◌, ℕ, Bool, true, ◌&&◌, is_none, vec_items, cond, List, [], ◌∷◌, length, Option, Some, None, Result, Ok, Err, ◌==◌, codes}
+use Rattle.std.specs.Prelude.{◌≡◌, ℕ, Bool, true, is_none, vec_items, List, [], ◌∷◌, length, Some, ◌==◌, codes}
 use Rattle.std.specs.List.{prefix_len}
 use Rattle.std.specs.Option.{option_map}
 use Rattle.std.specs.Str.{bytes_eq}
 use Rattle.text.specs.Hex.{hex_parsed}
-use Rattle.text.specs.Number.{number_of}
 use Rattle.text.specs.Words.{blank, Word}
 use Rattle.vectors.specs.Kind.{kind_name}
+use Rattle.vectors.specs.Params.{params_of, said}
 use Rattle.vectors.specs.declared.vector.Vector.{Vector}
 use Rattle.vectors.specs.declared.vector.ParseError.{ParseError}
 use Rattle.vectors.specs.declared.vector.ParseError.TheVariants.{Malformed, OutOfMemory}
@@ -25,18 +25,8 @@ abbrev pub SplitsInto : List ℕ → List (List ℕ) → Type 0
 SplitsInto line [] = prefix_len blank line ≡ length line
 SplitsInto line (w ∷ ws) = (rest : List ℕ) × Word line w rest × SplitsInto rest ws
 
-abbrev pub some_size : Option ℕ → Result (Option ℕ) ParseError
-some_size None = Err Malformed
-some_size (Some n) = Ok (Some n)
-
--- no size of `-`, the number of `e=` and a number, and nothing else
-abbrev pub size_of : List ℕ → Result (Option ℕ) ParseError
-size_of [] = Err Malformed
-size_of (c ∷ []) = cond (c == 45) (Ok None) (Err Malformed)
-size_of (c ∷ (d ∷ ds)) = cond (c == 101 && d == 61) (some_size (number_of ds)) (Err Malformed)
-
--- the words of the line are the vector's kind, its element size, its input, its output and the peer
+-- the words of the line are the vector's kind, its parameters, its input, its output and the peer
 abbrev pub SaysVector : List ℕ → Vector → Type 0
 SaysVector line v =
     (params : List ℕ) × (input : List ℕ) × (output : List ℕ) × (peer : List ℕ) × SplitsInto line (kind_name v.kind ∷ params ∷ input ∷ output ∷ peer ∷ []) ×
-    (size_of params ≡ Ok v.size) × (hex_parsed input ≡ Some (vec_items v.input)) × (hex_parsed output ≡ option_map vec_items v.output) × (is_none v.output ≡ bytes_eq output (codes "!"))
+    (params_of params ≡ Some (said v.params)) × (hex_parsed input ≡ Some (vec_items v.input)) × (hex_parsed output ≡ option_map vec_items v.output) × (is_none v.output ≡ bytes_eq output (codes "!"))

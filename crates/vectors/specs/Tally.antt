@@ -1,7 +1,7 @@
 -- How many vectors of each kind were equal, and how many differed.
 use Rattle.std.specs.Prelude.{ℕ, ◌+◌, ◌-◌, ◌^◌, min, Bool, true, false, List, ◌++◌, slice_index_or, decimal, codes}
 use Rattle.vectors.specs.declared.kind.Kind.{Kind}
-use Rattle.vectors.specs.declared.kind.Kind.TheVariants.{Shuffle, ShuffleRefuse, ChecksumFunction, ChecksumFile, ChecksumFileBad, ShuffleChecksum, ChecksumShuffle}
+use Rattle.vectors.specs.declared.kind.Kind.TheVariants.{Shuffle, ShuffleRefuse, ChecksumFunction, ChecksumFile, ChecksumFileBad, ShuffleChecksum, ChecksumShuffle, Transpose, Difference, BytesBig}
 use Rattle.vectors.specs.declared.kind.Count.{Count}
 use Rattle.vectors.specs.declared.kind.Tally.{Tally}
 
@@ -14,6 +14,9 @@ place_of ChecksumFile = 3
 place_of ChecksumFileBad = 4
 place_of ShuffleChecksum = 5
 place_of ChecksumShuffle = 6
+place_of Transpose = 7
+place_of Difference = 8
+place_of BytesBig = 9
 
 abbrev pub no_count : Count
 no_count = record { equal = 0; differ = 0 }

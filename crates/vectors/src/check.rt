@@ -1,27 +1,32 @@
-// Runs a vector through the library. The buffers and the stages are lent one by one: the ones serve every vector, the others
-// one.
+// Runs a vector through the library. The buffers, the codec and the form are lent one by one: the first serve every vector, the
+// others one.
 use crate::kind::Kind;
+use crate::params::Params;
 use crate::vector::Vector;
+use array_codecs::array_codec::{self, ArrayCodec};
+use base_codecs::single::Single;
 use buffers::Buffers;
 use byte_codecs::byte_codec::{self, ByteCodec};
+use bytes_codec::bytes_codec::{BytesCodec, Endianness};
+use difference::difference_codec::DifferenceCodec;
 use fletcher32::fletcher32_codec::Fletcher32Codec;
+use form::array_form::Form;
+use form::data_type::DataType;
 use form::fault::Fault;
 use pair::Pair;
 use shuffle::shuffle_codec::ShuffleCodec;
 use stage::codec::Codec;
-
-// Two byte stages; the inner encodes first.
-type Stages = Pair<ByteCodec, ByteCodec>;
+use transpose::transpose_codec::TransposeCodec;
 
 // Undoes all singles into the output, with checks on.
-fn undo_all(
+fn undo_all<C: Codec>(
     buffers: &mut Buffers,
-    stages: &Stages,
-    decoded: usize,
+    codec: &C,
+    form: &C::Decoded,
     input: &[u8],
 ) -> Result<usize, Fault> {
-    let singles = stages.singles().ok_or(Fault::Length)?;
-    buffers.undo(stages, &decoded, 0, singles, true, input)
+    let singles = codec.singles().ok_or(Fault::Length)?;
+    buffers.undo(codec, form, 0, singles, true, input)
 }
 
 // Whether a call left just these bytes in the output.
@@ -30,63 +35,123 @@ fn left(buffers: &Buffers, count: Result<usize, Fault>, bytes: &[u8]) -> bool {
 }
 
 // The shuffle of elements of a size, which a vector of it has to say.
-fn shuffle(size: Option<usize>) -> Result<ByteCodec, Fault> {
-    let codec = ShuffleCodec::new(size.ok_or(Fault::ElementSize)?)?;
-    Ok(byte_codec::shuffle(codec))
+fn shuffle(params: &Params) -> Result<ByteCodec, Fault> {
+    let Params::ElementSize(size) = params else {
+        return Err(Fault::ElementSize);
+    };
+    Ok(byte_codec::shuffle(ShuffleCodec::new(*size)?))
 }
 
-// The stages of a kind.
-fn stages_of(kind: Kind, size: Option<usize>) -> Result<Stages, Fault> {
-    let checksum = byte_codec::fletcher32(Fletcher32Codec::new());
-    match kind {
-        Kind::Shuffle | Kind::ShuffleRefuse => Ok(Pair::new(ByteCodec::empty(), shuffle(size)?)),
-        Kind::ChecksumFunction | Kind::ChecksumFile | Kind::ChecksumFileBad => {
-            Ok(Pair::new(ByteCodec::empty(), checksum))
+// The transposition by an order of axes, which a vector of it has to say.
+fn transpose(params: &Params) -> Result<ArrayCodec, Fault> {
+    let Params::Axes { order, .. } = params else {
+        return Err(Fault::AxisOrder);
+    };
+    let codec = TransposeCodec::new(order.as_slice())?;
+    Ok(array_codec::transpose(codec))
+}
+
+// The form of an array with fill value 0.
+fn array_form(shape: &[usize], code: usize) -> Result<Form, Fault> {
+    let fill = [0; 8];
+    let size = DataType::try_from(code)?.size();
+    Form::new(shape, code, &fill[..size])
+}
+
+// The form of the array of so many bytes that a vector has; one that says no shape has one dimension.
+fn form_of(params: &Params, bytes: usize) -> Result<Form, Fault> {
+    match params {
+        Params::DataType(code) => {
+            let size = DataType::try_from(*code)?.size();
+            array_form(&[bytes / size], *code)
         }
-        Kind::ShuffleChecksum => Ok(Pair::new(checksum, shuffle(size)?)),
-        Kind::ChecksumShuffle => Ok(Pair::new(shuffle(size)?, checksum)),
+        Params::Axes { code, shape, .. } => array_form(shape.as_slice(), *code),
+        Params::Nothing | Params::ElementSize(_) => Err(Fault::DataType),
     }
 }
 
-// Whether the input is encoded to the bytes, and these are undone to the input.
-fn both_ways(buffers: &mut Buffers, stages: &Stages, input: &[u8], bytes: &[u8]) -> bool {
-    let count = buffers.encode(stages, &input.len(), input);
-    if !left(buffers, count, bytes) {
+// Whether the input is encoded to the peer's output, and this is undone to the input.
+fn both_ways<C: Codec>(
+    buffers: &mut Buffers,
+    vector: &Vector,
+    codec: &C,
+    form: &C::Decoded,
+) -> bool {
+    let Some(output) = &vector.output else {
+        return false;
+    };
+    let input = vector.input.as_slice();
+    let count = buffers.encode(codec, form, input);
+    if !left(buffers, count, output.as_slice()) {
         return false;
     }
-    let count = undo_all(buffers, stages, input.len(), bytes);
+    let count = undo_all(buffers, codec, form, output.as_slice());
     left(buffers, count, input)
 }
 
-// Whether the checksum that is stored after the input is these bytes.
-fn stored_checksum(buffers: &mut Buffers, stages: &Stages, input: &[u8], bytes: &[u8]) -> bool {
-    let count = buffers.encode(stages, &input.len(), input);
-    matches!(count, Ok(n) if buffers.output.as_slice().get(input.len()..n) == Some(bytes))
+// Whether the shuffle refuses the length, as the peer does.
+fn refuses_length(buffers: &mut Buffers, vector: &Vector, shuffle: &ByteCodec) -> bool {
+    let input = vector.input.as_slice();
+    let count = buffers.encode(shuffle, &input.len(), input);
+    vector.output.is_none() && matches!(count, Err(Fault::Multiple))
 }
 
-// Whether the library does what the peer does.
-pub fn agrees(buffers: &mut Buffers, vector: &Vector) -> bool {
-    let input = vector.input.as_slice();
-    // stages that are refused agree with nothing
-    let Ok(stages) = stages_of(vector.kind, vector.size) else {
+// Whether the checksum that is stored after the input is the peer's.
+fn stored_checksum(buffers: &mut Buffers, vector: &Vector, checksum: &ByteCodec) -> bool {
+    let Some(output) = &vector.output else {
         return false;
     };
-    match (vector.kind, &vector.output) {
-        (Kind::ShuffleRefuse, None) => {
-            matches!(
-                buffers.encode(&stages, &input.len(), input),
-                Err(Fault::Multiple)
-            )
+    let input = vector.input.as_slice();
+    let count = buffers.encode(checksum, &input.len(), input);
+    matches!(count, Ok(n) if buffers.output.as_slice().get(input.len()..n) == Some(output.as_slice()))
+}
+
+// Whether the checksum does not fit the data before it, which the peer finds too.
+fn finds_damage(buffers: &mut Buffers, vector: &Vector, checksum: &ByteCodec) -> bool {
+    let input = vector.input.as_slice();
+    let decoded = input.len().saturating_sub(4);
+    let undone = undo_all(buffers, checksum, &decoded, input);
+    vector.output.is_none() && matches!(undone, Err(Fault::Checksum(0)))
+}
+
+// The same as `agrees`, unless a codec or a form is refused.
+fn run(buffers: &mut Buffers, vector: &Vector) -> Result<bool, Fault> {
+    let params = &vector.params;
+    let bytes = vector.input.len();
+    let checksum = byte_codec::fletcher32(Fletcher32Codec::new());
+    let equal = match vector.kind {
+        Kind::Shuffle => both_ways(buffers, vector, &shuffle(params)?, &bytes),
+        Kind::ShuffleRefuse => refuses_length(buffers, vector, &shuffle(params)?),
+        Kind::ChecksumFunction => stored_checksum(buffers, vector, &checksum),
+        Kind::ChecksumFile => both_ways(buffers, vector, &checksum, &bytes),
+        Kind::ChecksumFileBad => finds_damage(buffers, vector, &checksum),
+        Kind::ShuffleChecksum => {
+            let stages = Pair::new(checksum, shuffle(params)?);
+            both_ways(buffers, vector, &stages, &bytes)
         }
-        (Kind::ChecksumFileBad, None) => {
-            let decoded = input.len().saturating_sub(4);
-            let undone = undo_all(buffers, &stages, decoded, input);
-            matches!(undone, Err(Fault::Checksum(0)))
+        Kind::ChecksumShuffle => {
+            let stages = Pair::new(shuffle(params)?, checksum);
+            both_ways(buffers, vector, &stages, &bytes)
         }
-        (Kind::ShuffleRefuse | Kind::ChecksumFileBad, _) | (_, None) => false,
-        (Kind::ChecksumFunction, Some(bytes)) => {
-            stored_checksum(buffers, &stages, input, bytes.as_slice())
+        Kind::Transpose => {
+            let form = form_of(params, bytes)?;
+            both_ways(buffers, vector, &transpose(params)?, &form)
         }
-        (_, Some(bytes)) => both_ways(buffers, &stages, input, bytes.as_slice()),
-    }
+        Kind::Difference => {
+            let form = form_of(params, bytes)?;
+            let codec = array_codec::difference(DifferenceCodec::new());
+            both_ways(buffers, vector, &codec, &form)
+        }
+        Kind::BytesBig => {
+            let form = form_of(params, bytes)?;
+            let codec = Single::new(BytesCodec::new(Some(Endianness::Big)));
+            both_ways(buffers, vector, &codec, &form)
+        }
+    };
+    Ok(equal)
+}
+
+// Whether the library does what the peer does. A codec or a form that is refused agrees with nothing.
+pub fn agrees(buffers: &mut Buffers, vector: &Vector) -> bool {
+    run(buffers, vector).unwrap_or(false)
 }

@@ -22,9 +22,15 @@ pub enum Kind {
     ShuffleChecksum,
     // a chunk that was given a checksum, and then shuffled
     ChecksumShuffle,
+    // an array with its axes in another order
+    Transpose,
+    // an array with each element less the one before it
+    Difference,
+    // an array with the most significant byte of each element first
+    BytesBig,
 }
 
-pub const KINDS: [Kind; 7] = [
+pub const KINDS: [Kind; 10] = [
     Kind::Shuffle,
     Kind::ShuffleRefuse,
     Kind::ChecksumFunction,
@@ -32,6 +38,9 @@ pub const KINDS: [Kind; 7] = [
     Kind::ChecksumFileBad,
     Kind::ShuffleChecksum,
     Kind::ChecksumShuffle,
+    Kind::Transpose,
+    Kind::Difference,
+    Kind::BytesBig,
 ];
 
 impl Kind {
@@ -46,6 +55,9 @@ impl Kind {
             Kind::ChecksumFileBad => "fletcher32-hdf5-bad",
             Kind::ShuffleChecksum => "hdf5-shuffle-fletcher",
             Kind::ChecksumShuffle => "hdf5-fletcher-shuffle",
+            Kind::Transpose => "transpose",
+            Kind::Difference => "difference",
+            Kind::BytesBig => "bytes-big",
         }
     }
 }
@@ -104,7 +116,7 @@ impl fmt::Display for Count {
 // A count for each kind, at the place of the kind; a map could run out of memory, and `count` cannot fail.
 #[derive(Clone, Copy)]
 pub struct Tally {
-    counts: [Count; 7],
+    counts: [Count; 10],
 }
 
 impl Tally {
@@ -112,7 +124,7 @@ impl Tally {
         ensures { (kind : _) → count_of result kind ≡ no_count }
     {
         Tally {
-            counts: [Count::default(); 7],
+            counts: [Count::default(); 10],
         }
     }
 

@@ -11,6 +11,7 @@ use vector::{ParseError, parse};
 
 mod check;
 mod kind;
+mod params;
 mod vector;
 
 // Tests the vector of a line, prints a line where it differs, and counts it.

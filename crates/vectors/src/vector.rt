@@ -3,22 +3,21 @@ ghost use Rattle.std.specs.Prelude.{◌≡◌, [], ◌∷◌, Some, None, IfOk, 
 ghost use Rattle.std.specs.Option.{option_map};
 ghost use Rattle.std.specs.Str.{bytes_eq};
 ghost use Rattle.text.specs.Hex.{hex_parsed};
-ghost use Rattle.vectors.specs.Line.{error_text, size_of, is_comment, SplitsInto, SaysVector};
+ghost use Rattle.vectors.specs.Line.{error_text, is_comment, SplitsInto, SaysVector};
 ghost use Rattle.vectors.specs.declared.vector.ParseError.TheVariants.{Malformed, OutOfMemory};
 
 use crate::kind::{Kind, UnknownKind};
+use crate::params::{Params, parse_params};
 use std::alloc::{AllocError, Global};
 use std::error::Error;
 use std::fmt;
 use text::hex::parse_hex;
-use text::number::parse_number;
 use text::words::next_word;
 
 #[derive(Drop)]
 pub struct Vector {
     pub kind: Kind,
-    // the element size, where the kind has one
-    pub size: Option<usize>,
+    pub params: Params,
     pub input: Vec<u8>,
     // what the peer gives, or None where it refuses
     pub output: Option<Vec<u8>>,
@@ -88,20 +87,6 @@ fn words(line: &[u8]) -> Option<Fields<'_>>
     })
 }
 
-// The element size of `e=SIZE`, or none of `-`.
-fn element_size(params: &[u8]) -> Result<Option<usize>, ParseError>
-    ensures { result ≡ size_of params.now }
-{
-    match params {
-        b"-" => Ok(None),
-        [b'e', b'=', size @ ..] => {
-            let size = parse_number(size).ok_or(ParseError::Malformed)?;
-            Ok(Some(size as usize))
-        }
-        _ => Err(ParseError::Malformed),
-    }
-}
-
 // `!` says that the peer refuses.
 fn expected(heap: Global, word: &[u8]) -> Result<Option<Vec<u8>>, ParseError>
     ensures bytes { IfOk result (λ o. option_map vec_items o ≡ hex_parsed word.now) }
@@ -125,13 +110,14 @@ pub fn parse(heap: Global, line: &[u8]) -> Result<Option<Vector>, ParseError>
     }
     let fields = words(line).ok_or(ParseError::Malformed)?;
     let kind = Kind::try_from(fields.kind)?;
-    let size = element_size(fields.params)?;
+    let params = parse_params(heap, fields.params)?;
+    let params = params.ok_or(ParseError::Malformed)?;
     let input = parse_hex(heap, fields.input)?;
-    let output = expected(heap, fields.output)?;
     let input = input.ok_or(ParseError::Malformed)?;
+    let output = expected(heap, fields.output)?;
     Ok(Some(Vector {
         kind,
-        size,
+        params,
         input,
         output,
     }))

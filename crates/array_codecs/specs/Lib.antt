@@ -1,2 +1,1 @@
 pub mod Chosen
-pub mod Choosing

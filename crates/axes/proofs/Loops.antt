@@ -1,5 +1,5 @@
 -- What loops over the axes keep.
-use Rattle.std.proofs.Common.{◌≡◌, ℕ, suc, ◌+◌, ◌-◌, ◌*◌, ◌/◌, ◌%◌, ◌<◌, ◌≤◌, List, length, get_or, set, sym, ap, ◌∙◌, subst, ⊎_elim, arith}
+use Rattle.std.proofs.Common.{◌≡◌, ℕ, suc, ◌+◌, ◌-◌, ◌*◌, ◌/◌, ◌%◌, ◌<◌, ◌≤◌, List, length, get_or, set, sym, ap, ◌∙◌, subst, ⊎_elim, add-one, arith}
 use Rattle.std.proofs.lemmas.Nat.{div_below}
 use Rattle.std.proofs.lemmas.List.{get_or-set_same, get_or-set_other}
 use Rattle.std.proofs.lemmas.Bool.{cases_eq}
@@ -40,9 +40,6 @@ peeled_more {lens} {r} {n} {rest} {a} at h4 l4 h la q =
       left = λ b lb. p.left b (omega arith) ∙ index_rest lens k rest b (λ e. omega arith);
     }
 
-next : (a : ℕ) → suc a ≡ a + 1
-next a = omega arith
-
 pub offset_small : (lens i : ℕ → ℕ) (a r n : ℕ) → a < r → 1 ≤ count lens r → count lens r ≤ 4096 → ((b : ℕ) → b < r → i b < lens b) → n ≡ offset lens i a → n * lens a + i a < 4096
 offset_small lens i a r n h f s v e =
     let k = count_le lens (suc a) r (omega arith) f in
@@ -50,4 +47,4 @@ offset_small lens i a r n h f s v e =
     subst (λ w. w * lens a + i a < 4096) (sym e) (omega arith)
 
 pub offset_more : (lens i : ℕ → ℕ) (a n : ℕ) → n ≡ offset lens i a → n * lens a + i a ≡ offset lens i (a + 1)
-offset_more lens i a n e = ap (λ v. v * lens a + i a) e ∙ ap (offset lens i) (next a)
+offset_more lens i a n e = ap (λ v. v * lens a + i a) e ∙ ap (offset lens i) (sym (add-one a))

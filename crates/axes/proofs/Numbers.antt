@@ -1,12 +1,15 @@
 -- An index and a number give each other, and a permuted array has as many elements.
 use Rattle.std.proofs.Common.{◌≡◌, ℕ, zero, suc, ◌+◌, ◌*◌, ◌/◌, ◌%◌, ◌<◌, ◌≤◌, Bool, true, false, cond, eqb, sym, refl, ap, ◌∙◌, subst, ⊎_elim, arith}
 use Rattle.std.proofs.Math.Nat.{mul_right_comm}
+use Rattle.std.proofs.Props.{props}
+use mathlib.Core.Path.{fun_ext}
+use mathlib.Core.HLevel.{is_prop→PathP}
 use Rattle.std.proofs.lemmas.Nat.{div-mul-add, mod-mul-add, mul-le, div_below, mod_below, div-add-mod'}
 use Rattle.std.proofs.lemmas.Bool.{cond-true, cond-false, eq-eqb, ne_eqb, cases_eq, cases_lt}
 use Rattle.form.proofs.Shapes.{positive}
 use Rattle.form.specs.Shapes.{count}
 use Rattle.stage.proofs.Gathers.{inside}
-use Rattle.axes.specs.Axes.{offset, index, Indexed, Numbered}
+use Rattle.axes.specs.Axes.{offset, index, Indexed, Numbered, Onto}
 
 pub count_same : (f g : ℕ → ℕ) (r : ℕ) → ((a : ℕ) → a < r → f a ≡ g a) → count f r ≡ count g r
 count_same f g zero h = refl
@@ -89,10 +92,6 @@ changed g p v (suc r) h =
     cc)
     (cases_eq p r)
 
--- each number below r is the order's at a place below r
-abbrev pub Onto : (ℕ → ℕ) → ℕ → Type 0
-Onto order r = (a : ℕ) → a < r → (k : ℕ) × (k < r) × (order k ≡ a)
-
 pub count_permuted : (f order : ℕ → ℕ) (r : ℕ) → Onto order r → count (λ k. f (order k)) r ≡ count f r
 count_permuted f order zero s = refl
 count_permuted f order (suc r) s = go (λ o z. count_permuted f o r z) (s r (omega arith)).0 (s r (omega arith)).1 (s r (omega arith)).2
@@ -173,6 +172,14 @@ onto_once order r a b s la lb e =
     let one : count (λ j. cond (eqb j a) 1 (g j)) r ≡ 1 = let m : count (λ j. cond (eqb j a) 1 (g j)) r * 2 ≡ 2 * 1 = subst (λ v. count (λ j. cond (eqb j a) 1 (g j)) r * v ≡ 2 * 1) (marked (order a)) (c ∙ ap (λ v. v * 1) all) in omega arith in
     absurd (twice (λ j. cond (eqb j a) 1 (g j)) b r lb (cond-false (eqb b a) 1 (g b) (ne_eqb b a q) ∙ ap (mark (order a)) e ∙ marked (order a)) one))
     (cases_eq b a)
+
+-- so it has each axis in one way
+one_way : (order : ℕ → ℕ) (r a : ℕ) (p q : (k : ℕ) × (k < r) × (order k ≡ a)) → p.0 ≡ q.0 → p ≡ q
+one_way order r a p q e = λ i. (e i, is_prop→PathP (λ j. e j < r) (λ j. hlevel props) p.1 q.1 i, is_prop→PathP (λ j. order (e j) ≡ a) (λ j. hlevel props) p.2 q.2 i)
+
+pub Onto-prop : (order : ℕ → ℕ) (r : ℕ) → IsProp (Onto order r)
+Onto-prop order r o u =
+    fun_ext (λ a. fun_ext (λ l. let p = o a l in let q = u a l in one_way order r a p q (onto_once order r q.0 p.0 o q.1 p.1 (p.2 ∙ sym q.2))))
 
 -- fewer axes, no more elements
 pub count_le : (lens : ℕ → ℕ) (a r : ℕ) → a ≤ r → 1 ≤ count lens r → (1 ≤ count lens a) × (count lens a ≤ count lens r)

@@ -26,6 +26,10 @@ Numbered = (lens i : ℕ → ℕ) (r : ℕ)
     → Within i lens r
     → (offset lens i r < count lens r) × ((a : ℕ) → a < r → index lens r (offset lens i r) a ≡ i a)
 
+-- each number below r is the order's at a place below r
+abbrev pub Onto : (ℕ → ℕ) → ℕ → Type 0
+Onto order r = (a : ℕ) → a < r → (k : ℕ) × (k < r) × (order k ≡ a)
+
 -- the last of r axes at which the order has a
 abbrev pub place : (ℕ → ℕ) → ℕ → ℕ → ℕ
 place order zero a = 0

@@ -1,27 +1,27 @@
 -- The difference codec: the first element stays, and each later one becomes itself less the one before it.
-use Rattle.std.specs.Prelude.{◌≡◌, ℕ, ◌+◌, ◌<◌, true, List, [], ◌∷◌, length, None, slice_index}
+use Rattle.std.specs.Prelude.{◌≡◌, ℕ, ◌+◌, ◌<◌, true, List, [], ◌∷◌, length, take, None, Ok, Result, slice_index}
 use Rattle.form.specs.declared.array_form.Form.{Form}
 use Rattle.form.specs.declared.data_type.DataType.{DataType}
-use Rattle.form.specs.declared.data_type.DataType.TheVariants.{UInt8, Int8, UInt16, Int16, UInt32, Int32, UInt64, Int64, Float32, Float64}
+use Rattle.form.specs.declared.data_type.DataType.TheVariants.{Float32, Float64}
+use Rattle.form.specs.declared.fault.Fault.{Fault}
+use Rattle.form.specs.Refusals.{only_if}
+use Rattle.form.specs.Types.{size_of}
 use Rattle.form.specs.Forms.{element_size}
 use Rattle.stage.specs.Stage.{Bytes}
+use Rattle.stage.specs.Calls.{InPlace, roomy}
 use Rattle.stage.specs.Single.{Coding, whole_only}
 use Rattle.stage.specs.Arrays.{element_count, array_bytes}
 use Rattle.stage.specs.Elements.{elements, bytes}
 use Rattle.groups.specs.Groups.{Operations, modular, exclusive}
 
 -- integers by their sums modulo 2 ^ (8 * size), floats by the exclusive or of their bits
+abbrev pub group_kind : DataType → ℕ → Operations
+group_kind Float32 = exclusive
+group_kind Float64 = exclusive
+group_kind t = modular
+
 abbrev pub group_of : DataType → Operations
-group_of UInt8 = modular 1
-group_of Int8 = modular 1
-group_of UInt16 = modular 2
-group_of Int16 = modular 2
-group_of UInt32 = modular 4
-group_of Int32 = modular 4
-group_of UInt64 = modular 8
-group_of Int64 = modular 8
-group_of Float32 = exclusive 4
-group_of Float64 = exclusive 8
+group_of t = group_kind t (size_of t)
 
 -- the first element stays, and F says what becomes of those after it
 abbrev pub first_stays : (ℕ → List ℕ → List ℕ) → List ℕ → List ℕ
@@ -51,20 +51,17 @@ module _ (o : Operations) where
   abbrev pub sums : List ℕ → List ℕ
   sums = first_stays summed
 
-  -- the same of the bytes of n elements
-  abbrev pub differenced : ℕ → List ℕ → List ℕ
-  differenced = on_elements differences o.width
-
-  abbrev pub restored : ℕ → List ℕ → List ℕ
-  restored = on_elements sums o.width
+-- the first n bytes of a buffer become F of them where they stand, or the refusal is 14
+abbrev pub FrontTurned : (List ℕ → List ℕ) → ℕ → List ℕ → List ℕ → ℕ → Result ℕ Fault → Type 0
+FrontTurned F n before behind scratch r = InPlace (only_if (roomy (length before) scratch) 14 (Ok n)) (F (take n before)) behind r
 
 abbrev pub differencing : Coding Form Form
 differencing = record {
   capability = whole_only;
   refusal = λ f. None;
   coded = λ f. f;
-  encoded = λ f x. differenced (group_of f.data_type) (element_count f) x;
-  decoded = λ f x. restored (group_of f.data_type) (element_count f) x;
+  encoded = λ f x. let o = group_of f.data_type in on_elements (differences o) o.width (element_count f) x;
+  decoded = λ f x. let o = group_of f.data_type in on_elements (sums o) o.width (element_count f) x;
   test = λ f x. true;
 }
 
@@ -80,6 +77,14 @@ pub record Different (f : Form) (x y : List ℕ) : Type 0 where
 abbrev pub Differs : Type 0
 Differs = (f : Form) (x : List ℕ) → length x ≡ array_bytes f → Bytes x → Different f x (differencing.encoded f x)
 
--- decoding what was encoded gives it back
-abbrev pub Restores : Type 0
-Restores = (f : Form) (x : List ℕ) → length x ≡ array_bytes f → Bytes x → differencing.decoded f (differencing.encoded f x) ≡ x
+-- element 0 of the decoded is that of the encoded, and each later one is the encoded's plus the decoded one before it
+pub record Summed (f : Form) (y x : List ℕ) : Type 0 where
+  pub first : element f x 0 ≡ element f y 0
+  pub later : (k : ℕ) → k + 1 < element_count f → element f x (k + 1) ≡ (group_of f.data_type).plus (element f y (k + 1)) (element f x k)
+
+abbrev pub Adds : Type 0
+Adds = (f : Form) (y : List ℕ) → length y ≡ array_bytes f → Bytes y → Summed f y (differencing.decoded f y)
+
+-- encoding what was decoded gives the bytes back
+abbrev pub Recodes : Type 0
+Recodes = (f : Form) (y : List ℕ) → length y ≡ array_bytes f → Bytes y → differencing.encoded f (differencing.decoded f y) ≡ y

@@ -3,7 +3,7 @@ use Rattle.std.specs.Prelude.{◌≡◌, ℕ, zero, suc, ◌+◌, ◌-◌, ◌*�
 use Rattle.std.specs.List.{AllByRecursion}
 use Rattle.std.proofs.Common.{sym, ap, subst, ◌∙◌, suc-mul, arith}
 use Rattle.std.proofs.Math.Nat.{pow-succ'}
-use Rattle.std.proofs.lemmas.List.{length-append, length-take-le, length-drop, take_at, drop_at, take-append-drop, nil_from_length, take-take, drop-take}
+use Rattle.std.proofs.lemmas.List.{length-append, length-take-le, length-drop, take_at, drop_at, take-append-drop, nil_from_length}
 use Rattle.stage.specs.Stage.{Bytes}
 use Rattle.stage.specs.Elements.{little, digits, elements, bytes}
 use Rattle.stage.proofs.Bytewise.{Bytes-append, Bytes-take, Bytes-drop}
@@ -16,7 +16,7 @@ Bytes_tail : (d : ℕ) (ds : List ℕ) → Bytes (d ∷ ds) → Bytes ds
 Bytes_tail d ds h k u = h (suc k) (omega arith)
 
 -- one more byte on the low side
-pub little_fits : (v d m : ℕ) → v < 256 ^ m → d < 256 → d + 256 * v < 256 ^ suc m
+little_fits : (v d m : ℕ) → v < 256 ^ m → d < 256 → d + 256 * v < 256 ^ suc m
 little_fits v d m h k = let e = pow-succ' 256 m in omega arith
 
 little_lt : (x : List ℕ) → Bytes x → little x < 256 ^ length x
@@ -32,7 +32,7 @@ Bytes-digits zero v k h = omega arith
 Bytes-digits (suc w) v zero h = omega arith
 Bytes-digits (suc w) v (suc k) h = Bytes-digits w (v / 256) k (omega arith)
 
-pub little-digits : (w v : ℕ) → v < 256 ^ w → little (digits w v) ≡ v
+little-digits : (w v : ℕ) → v < 256 ^ w → little (digits w v) ≡ v
 little-digits zero v h = omega arith
 little-digits (suc w) v h =
     let e = pow-succ' 256 w in
@@ -85,13 +85,6 @@ bytes_elements w (suc n) x h b =
     let l = length-drop w x in
     let d : digits w (little (take w x)) ≡ take w x = subst (λ k. digits k (little (take w x)) ≡ take w x) (length-take-le w x u) (digits-little (take w x) (Bytes-take w x u b)) in
     rw (d, bytes_elements w n (drop w x) (omega arith) (Bytes-drop w x u b), take-append-drop w x)
-
--- the first n elements stand in the first n * w bytes
-pub elements-take : (w n : ℕ) (x : List ℕ) → elements w n (take (n * w) x) ≡ elements w n x
-elements-take w zero x = refl
-elements-take w (suc n) x =
-    let e : suc n * w ≡ w + n * w = let s = suc-mul n w in omega arith in
-    rw (e, take-take w (w + n * w) x (omega arith), drop-take w (n * w) x, elements-take w n (drop w x))
 
 pub elements_more : (w n : ℕ) (x : List ℕ) → 0 < n → elements w n x ≡ little (take w x) ∷ elements w (n - 1) (drop w x)
 elements_more w zero x h = absurd (omega arith)

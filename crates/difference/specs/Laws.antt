@@ -1,83 +1,100 @@
 -- The laws of the difference codec, and what it makes of each element.
-use Rattle.std.specs.Prelude.{◌≡◌, ℕ, ◌+◌, ◌*◌, ◌<◌, List, slice_index, refl}
+use Rattle.std.specs.Prelude.{◌≡◌, ℕ, ◌+◌, ◌*◌, List, length, slice_index, refl}
 use Rattle.std.proofs.Common.{sym, ap, subst, ◌∙◌, inl, arith}
 use Rattle.form.specs.declared.array_form.Form.{Form}
 use Rattle.form.specs.declared.data_type.DataType.{DataType}
-use Rattle.form.specs.declared.data_type.DataType.TheVariants.{UInt8, Int8, UInt16, Int16, UInt32, Int32, UInt64, Int64, Float32, Float64}
+use Rattle.form.specs.declared.data_type.DataType.TheVariants.{UInt8, Float32, Float64}
 use Rattle.form.specs.Types.{size_of}
 use Rattle.form.specs.Forms.{element_size}
-use Rattle.form.proofs.Shapes.{Facts, facts, positive}
+use Rattle.form.proofs.Types.{size_within}
+use Rattle.form.proofs.Sized.{form_facts}
+use Rattle.stage.specs.Stage.{Bytes}
 use Rattle.stage.specs.Single.{CodingLaws, single}
 use Rattle.stage.specs.Arrays.{element_count, array_bytes, ArrayLaws}
 use Rattle.stage.specs.Elements.{elements}
 use Rattle.groups.specs.Groups.{Operations, GroupLaws}
 use Rattle.groups.specs.Modulo.{modular_laws}
 use Rattle.groups.specs.Bitwise.{exclusive_laws}
-use Rattle.difference.specs.Difference.{group_of, differences, sums, differenced, differencing, Differs, Restores}
+use Rattle.difference.specs.Difference.{group_of, first_stays, on_elements, lessened, summed, differences, sums, differencing, Differs, Adds, Recodes}
 use Rattle.difference.specs.ElementBytes.{length-elements, Bytes-bytes}
-use Rattle.difference.specs.Sums.{length-differenced, length-restored, first_of, later_of, elements-differenced, restored-differenced}
+use Rattle.difference.specs.Sums.{Keeps, Undoes, first_of, length-on_elements, elements-on_elements, on_elements_back, less_before, plus_before, lessened_keeps, summed_keeps, summed-lessened, lessened-summed}
 
 -- a group's numbers are as wide as the elements
-pub width_is : (t : DataType) → (group_of t).width ≡ size_of t
+width_is : (t : DataType) → (group_of t).width ≡ size_of t
 width_is UInt8 = refl
-width_is Int8 = refl
-width_is UInt16 = refl
-width_is Int16 = refl
-width_is UInt32 = refl
-width_is Int32 = refl
-width_is UInt64 = refl
-width_is Int64 = refl
-width_is Float32 = refl
-width_is Float64 = refl
+width_is t = refl
 
 group_laws : (t : DataType) → GroupLaws (group_of t)
-group_laws UInt8 = modular_laws 1 (omega arith, omega arith)
-group_laws Int8 = modular_laws 1 (omega arith, omega arith)
-group_laws UInt16 = modular_laws 2 (omega arith, omega arith)
-group_laws Int16 = modular_laws 2 (omega arith, omega arith)
-group_laws UInt32 = modular_laws 4 (omega arith, omega arith)
-group_laws Int32 = modular_laws 4 (omega arith, omega arith)
-group_laws UInt64 = modular_laws 8 (omega arith, omega arith)
-group_laws Int64 = modular_laws 8 (omega arith, omega arith)
-group_laws Float32 = exclusive_laws 4 (omega arith, omega arith)
-group_laws Float64 = exclusive_laws 8 (omega arith, omega arith)
+group_laws Float32 = exclusive_laws (size_of Float32) (size_within Float32)
+group_laws Float64 = exclusive_laws (size_of Float64) (size_within Float64)
+group_laws t = modular_laws (size_of t) (size_within t)
 
--- the bytes of an array, by the width of its group
-weight_is : (f : Form) → element_count f * (group_of f.data_type).width ≡ array_bytes f
-weight_is f = ap (λ w. element_count f * w) (width_is f.data_type)
+module _ (f : Form) where
+  abbrev o : Operations
+  o = group_of f.data_type
 
-pub form_facts : (f : Form) → Facts f.lengths f.dims (element_size f)
-form_facts f = facts f.lengths f.dims (element_size f) f.ok
+  abbrev n : ℕ
+  n = element_count f
 
-pub some_elements : (f : Form) → 0 < element_count f
-some_elements f = (positive (element_count f) (element_size f) (form_facts f).full).0
+  lessened_kept : Keeps o.width (lessened o)
+  lessened_kept = lessened_keeps o (group_laws f.data_type)
 
-pub restores : Restores
-restores f x l h = restored-differenced (group_of f.data_type) (group_laws f.data_type) (element_count f) x (l ∙ sym (weight_is f)) h
+  summed_kept : Keeps o.width (summed o)
+  summed_kept = summed_keeps o (group_laws f.data_type)
+
+  -- the bytes of an array, by the width of its group
+  weight_is : n * o.width ≡ array_bytes f
+  weight_is = ap (λ w. n * w) (width_is f.data_type)
+
+  module _ (F : ℕ → List ℕ → List ℕ) (k : Keeps o.width F) where
+    abbrev made : List ℕ → List ℕ
+    made x = on_elements (first_stays F) o.width n x
+
+    length-made : (x : List ℕ) → length (made x) ≡ array_bytes f
+    length-made x = length-on_elements o.width F k n x ∙ weight_is
+
+    elements-made : (x : List ℕ) → length x ≡ array_bytes f → Bytes x → elements (element_size f) n (made x) ≡ first_stays F (elements (element_size f) n x)
+    elements-made x l h =
+        let z = weight_is in
+        subst (λ w. elements w n (made x) ≡ first_stays F (elements w n x)) (width_is f.data_type) (elements-on_elements o.width F k n x (omega arith) h)
+
+    made_back : (G : ℕ → List ℕ → List ℕ) → Undoes o.width G F → (x : List ℕ) → length x ≡ array_bytes f → Bytes x → on_elements (first_stays G) o.width n (made x) ≡ x
+    made_back G u x l h = on_elements_back o.width F k G u n x (l ∙ sym weight_is) h
 
 pub differencing_laws : CodingLaws array_bytes array_bytes differencing
 differencing_laws = record {
   fits = λ f r. let k = (form_facts f).fits in (k, k);
-  encoded_size = λ f x r l. length-differenced (group_of f.data_type) (element_count f) x ∙ weight_is f;
-  encoded_bytes = λ f x r l h. Bytes-bytes (group_of f.data_type).width (differences (group_of f.data_type) (elements (group_of f.data_type).width (element_count f) x));
-  decoded_size = λ f x r l. length-restored (group_of f.data_type) (element_count f) x ∙ weight_is f;
-  decoded_bytes = λ f x r l h. Bytes-bytes (group_of f.data_type).width (sums (group_of f.data_type) (elements (group_of f.data_type).width (element_count f) x));
-  back = λ f x r l h. restores f x l h;
+  encoded_size = λ f x r l. length-made f (lessened (o f)) (lessened_kept f) x;
+  encoded_bytes = λ f x r l h. Bytes-bytes (o f).width (differences (o f) (elements (o f).width (n f) x));
+  decoded_size = λ f x r l. length-made f (summed (o f)) (summed_kept f) x;
+  decoded_bytes = λ f x r l h. Bytes-bytes (o f).width (sums (o f) (elements (o f).width (n f) x));
+  back = λ f x r l h. made_back f (lessened (o f)) (lessened_kept f) (summed (o f)) (summed-lessened (o f) (group_laws f.data_type)) x l h;
   passing = λ f x r l h. refl;
 }
 
 pub differs : Differs
 differs f x l h =
-    let o : Operations = group_of f.data_type in
-    let n : ℕ = element_count f in
-    let vs : List ℕ = elements (element_size f) n x in
-    let w = weight_is f in
-    let e : elements (element_size f) n (differenced o n x) ≡ differences o vs =
-    subst (λ k. elements k n (differenced o n x) ≡ differences o (elements k n x)) (width_is f.data_type) (elements-differenced o (group_laws f.data_type) n x (omega arith) h) in
+    let vs : List ℕ = elements (element_size f) (n f) x in
+    let e = elements-made f (lessened (o f)) (lessened_kept f) x l h in
     record {
-      first = ap (λ ys. slice_index ys 0) e ∙ first_of o vs;
-      later = λ k u. ap (λ ys. slice_index ys (k + 1)) e ∙ later_of o vs k (omega (arith, length-elements (element_size f) n x));
+      first = ap (λ ys. slice_index ys 0) e ∙ first_of (lessened (o f)) vs;
+      later = λ k u. ap (λ ys. slice_index ys (k + 1)) e ∙ less_before (o f) vs k (omega (arith, length-elements (element_size f) (n f) x));
     }
+
+pub adds : Adds
+adds f y l h =
+    let ds : List ℕ = elements (element_size f) (n f) y in
+    let e = elements-made f (summed (o f)) (summed_kept f) y l h in
+    record {
+      first = ap (λ xs. slice_index xs 0) e ∙ first_of (summed (o f)) ds;
+      later = λ k u.
+          ap (λ xs. slice_index xs (k + 1)) e
+          ∙ plus_before (o f) ds k (omega (arith, length-elements (element_size f) (n f) y))
+          ∙ ap (λ xs. (o f).plus (slice_index ds (k + 1)) (slice_index xs k)) (sym e);
+    }
+
+pub recodes : Recodes
+recodes f y l h = made_back f (summed (o f)) (summed_kept f) (lessened (o f)) (lessened-summed (o f) (group_laws f.data_type)) y l h
 
 pub differencing_arrays : ArrayLaws (single array_bytes array_bytes differencing)
 differencing_arrays = record {

@@ -1,9 +1,7 @@
 // The difference codec: each element less the one before it.
-ghost use Rattle.std.specs.Prelude.{◌≡◌, length, take, Ok};
-ghost use Rattle.form.specs.Refusals.{only_if};
-ghost use Rattle.stage.specs.Calls.{InPlace, roomy};
+ghost use Rattle.std.specs.Prelude.{◌≡◌, length};
 ghost use Rattle.stage.specs.Arrays.{element_count, array_bytes};
-ghost use Rattle.difference.specs.Difference.{group_of, first_stays, on_elements, differencing, Differs, Restores};
+ghost use Rattle.difference.specs.Difference.{group_of, first_stays, on_elements, FrontTurned, differencing, Differs, Adds, Recodes};
 ghost use Rattle.difference.specs.Laws.{differencing_laws, differencing_arrays};
 
 use crate::differences::{Differences, Direction, Sums, turn};
@@ -36,7 +34,7 @@ fn turn_array<D: Direction>(form: &Form, array: &mut [u8])
 
 // The same of the array in the front of a buffer.
 fn turn_front<D: Direction>(form: &Form, buf: &mut [u8], scratch: &[u8]) -> Result<usize, Fault>
-    ensures { let o = group_of form.now.data_type in InPlace (only_if (roomy (length buf.old) (length scratch.now)) 14 (Ok (array_bytes form.now))) (on_elements (first_stays (D.after o)) o.width (element_count form.now) (take (array_bytes form.now) buf.old)) buf.new result }
+    ensures { let o = group_of form.now.data_type in FrontTurned (on_elements (first_stays (D.after o)) o.width (element_count form.now)) (array_bytes form.now) buf.old buf.new (length scratch.now) result }
 {
     room(buf, scratch)?;
     let size = form.bytes();
@@ -88,8 +86,10 @@ impl SingleArrayToArrayCodec for DifferenceCodec {
     ghost keeps = { λ s. differencing_arrays };
 }
 
-// What is proved of the format: what each element becomes, and that decoding gives it back.
+// What is proved of the format: what each element becomes, where arrays are encoded and where any bytes are decoded, and that
+// encoding what was decoded gives it back.
 pub fn difference_stands()
     ensures differs { Differs }
-    ensures restores { Restores }
+    ensures adds { Adds }
+    ensures recodes { Recodes }
 {}

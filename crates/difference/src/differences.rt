@@ -52,7 +52,7 @@ pub(crate) fn turn<D: Direction, G: Group>(group: &G, array: &mut [u8])
     let w = group.width();
     let count = array.len() / w;
     let mut before = read(&array[..w]);
-    // By index, since `chunks_exact_mut` was tried, and a proof knows only the length of the slice that it wrote.
+    // By index: of what is written through chunks_exact_mut a proof knows only the length.
     for e in 1..count {
         let element = &mut array[e * w..(e + 1) * w];
         let (turned, next) = D::step(group, read(element), before);

@@ -2,7 +2,8 @@
 ghost use Rattle.std.specs.Prelude.{◌≡◌, ◌≤◌, length};
 ghost use Rattle.stage.specs.Elements.{little, digits};
 
-// The number that an element's bytes write.
+// The number that an element's bytes write. The clause `bytes` follows from `value`, but not in a proof that does not know that
+// each byte is below 256, as at the start of the loop in `turn`.
 pub(crate) fn read(element: &[u8]) -> u64
     requires { length element.now ≤ 8 }
     ensures value { result ≡ little element.now }

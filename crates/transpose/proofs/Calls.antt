@@ -13,10 +13,8 @@ use Rattle.stage.proofs.Refusing.{unless_ok}
 use Rattle.axes.specs.Axes.{place, seat, Follows}
 use Rattle.axes.proofs.Seats.{seat_same}
 use Rattle.transpose.specs.declared.transpose_codec.TransposeCodec.{TransposeCodec}
-use Rattle.transpose.specs.Transpose.{new_lengths, target, transposing}
-use Rattle.transpose.specs.Orders.{Ordered}
+use Rattle.transpose.specs.Transpose.{Permutes, new_lengths, target, transposing}
 use Rattle.transpose.specs.Transposed.{not_refused, out, home, same_volume, turned, turned_is}
-use Rattle.transpose.proofs.Orders.{ordered_in}
 
 -- the codec answered the new form g for f
 module _ (t : TransposeCodec) (f g : Form) (r : ◌≡◌ {A = Result Form Refusal} (Ok g) (unless ((transposing t.order t.dims).refusal f) (Ok ((transposing t.order t.dims).coded f)))) where
@@ -32,8 +30,8 @@ module _ (t : TransposeCodec) (f g : Form) (r : ◌≡◌ {A = Result Form Refus
   pub dims_same : t.dims ≡ f.dims
   dims_same = not_refused order t.dims f taken
 
-  ordered : Ordered (on order) f.dims
-  ordered = subst (Ordered (on order)) dims_same (ordered_in t)
+  ordered : Permutes (on order) f.dims
+  ordered = subst (Permutes (on order)) dims_same t.permutes
 
   new_is : g ≡ turned order f ordered
   new_is = (let e = (unless_ok (coding.refusal f) (Ok (coding.coded f)) g r).1 in cc) ∙ sym (turned_is order f ordered)

@@ -1,37 +1,23 @@
 -- What the loop that gathers elements keeps.
-use Rattle.std.proofs.Common.{◌≡◌, ℕ, suc, ◌+◌, ◌-◌, ◌*◌, ◌<◌, ◌≤◌, List, ◌++◌, length, get_or, take, drop, sym, ap, ◌∙◌, subst, ⊎_elim, suc-mul, arith}
+use Rattle.std.proofs.Common.{◌≡◌, ℕ, ◌+◌, ◌-◌, ◌*◌, ◌<◌, ◌≤◌, List, ◌++◌, length, get_or, take, drop, sym, ap, ◌∙◌, subst, ⊎_elim, arith}
 use borrow.Rule.Slice.PartMut.{put_mid}
-use Rattle.std.proofs.lemmas.Nat.{mul-le}
 use Rattle.std.proofs.lemmas.List.{get_or_append_left, get_or-append_right, get_or-take, get_or-drop, length-append, length-take-le, length-drop}
 use Rattle.std.proofs.lemmas.List.FromFn.{fill_by_all}
 use Rattle.std.proofs.lemmas.Slice.{take-put_mid}
 use Rattle.std.proofs.lemmas.Bool.{cases_lt}
 use Rattle.form.specs.Forms.{element_size}
 use Rattle.form.specs.Shapes.{on, count}
-use Rattle.form.proofs.Shapes.{positive}
+use Rattle.form.proofs.Sized.{form_facts, elements_few}
 use Rattle.stage.specs.Arrays.{element_count, array_bytes}
 use Rattle.stage.specs.Gathers.{gathered, by_element}
-use Rattle.axes.specs.Axes.{offset}
-use Rattle.axes.proofs.Numbers.{Onto, count_same, count_permuted}
+use Rattle.axes.specs.Axes.{offset, Onto}
+use Rattle.axes.proofs.Numbers.{count_same, count_permuted}
 use Rattle.axes.proofs.Seats.{seat_below}
 use Rattle.axes.proofs.Loops.{offset_small, offset_more}
 use Rattle.transpose.specs.declared.gather.Gathering.{Gathering}
 use Rattle.transpose.specs.Gatherings.{seat_in}
-use Rattle.transpose.specs.Orders.{onto}
-use Rattle.transpose.specs.Transposed.{form_facts}
-use Rattle.transpose.proofs.Orders.{ordered_in}
+use Rattle.stage.proofs.Elements.{next_is, element_inside}
 use Rattle.stage.proofs.Gathers.{length-gathered, get_or-gathered, element_byte}
-
--- no more elements than bytes
-few_elements : (c s : ℕ) → 1 ≤ s → c * s ≤ 4096 → c ≤ 4096
-few_elements c s h k = let m = mul-le c 1 c s (omega arith) h in omega arith
-
--- an element stands among the elements
-pub element_inside : (s c e : ℕ) → e < c → e * s + s ≤ c * s
-element_inside s c e h =
-    let m = suc-mul e s in
-    let l = mul-le (suc e) s c s (omega arith) (omega arith) in
-    omega arith
 
 module _ (g : Gathering) where
   pub few_axes : g.of.dims ≤ 4
@@ -41,14 +27,8 @@ module _ (g : Gathering) where
   pub same_elements : count (on g.by.lengths) g.of.dims ≡ element_count g.of
   same_elements =
       let o = g.order in
-      let all = subst (Onto (on o.order)) g.dims (onto (on o.order) o.dims o.some (ordered_in o)) in
+      let all = subst (Onto (on o.order)) g.dims o.permutes.met in
       sym (count_permuted (on g.by.lengths) (on o.order) g.of.dims all) ∙ count_same _ (on g.of.lengths) g.of.dims (λ a l. (g.follows a l).1)
-
-  pub some_elements : (1 ≤ element_count g.of) × (element_count g.of ≤ 4096)
-  some_elements =
-      let f = form_facts g.of in
-      let p = positive (element_count g.of) (element_size g.of) f.full in
-      (p.0, few_elements (element_count g.of) (element_size g.of) p.1 f.fits)
 
   -- one axis more of an offset
   pub record Step (at : List ℕ) (n k len axis : ℕ) : Type 0 where
@@ -63,8 +43,9 @@ module _ (g : Gathering) where
   offset_step at n k len axis h l el ea e =
       let i : ℕ → ℕ = λ a. on at (on g.order.order a) in
       let same : n * len + on at axis ≡ n * on g.of.lengths k + i k = ap (λ v. n * v + on at axis) el ∙ ap (λ v. n * on g.of.lengths k + on at v) ea in
+      let some = elements_few g.of in
       record {
-        small = subst (λ v. v < 4096) (sym same) (offset_small (on g.of.lengths) i k g.of.dims n l some_elements.0 some_elements.1 h e);
+        small = subst (λ v. v < 4096) (sym same) (offset_small (on g.of.lengths) i k g.of.dims n l some.0 some.1 h e);
         inside = let r = (g.follows k l).0 in let f = few_axes in omega arith;
         more = same ∙ offset_more (on g.of.lengths) i k n e;
       }
@@ -81,10 +62,10 @@ module _ (g : Gathering) where
       offset_step at n k len axis h (omega arith) (t.2 0) (t.3 0 ∙ ap (λ v. get_or v k 0) e ∙ get_or-take g.order.dims g.order.order k 0 l) i
 
   -- the element that is read lies in the array
-  pub seat_inside : {size n m : ℕ} → size ≡ element_size g.of → m ≡ seat_in g n → n < element_count g.of → m * size + size ≤ array_bytes g.of
-  seat_inside {size} {n} {m} q e h =
+  pub seat_inside : {size n m : ℕ} (x : List ℕ) → length x ≡ array_bytes g.of → size ≡ element_size g.of → m ≡ seat_in g n → n < element_count g.of → m * size + size ≤ length x
+  seat_inside {size} {n} {m} x w q e h =
       let b = seat_below (on g.of.lengths) (on g.by.lengths) (on g.order.order) g.of.dims n g.follows (subst (λ v. n < v) (sym same_elements) h) in
-      subst (λ v. m * v + v ≤ array_bytes g.of) (sym q) (element_inside (element_size g.of) (element_count g.of) m (omega arith))
+      subst (λ v. m * v + v ≤ length x) (sym q) (element_inside m (element_size g.of) (element_count g.of) x (omega arith) (omega arith))
 
 -- the first e elements stand in front
 abbrev pub Gathered : (ℕ → ℕ) → ℕ → ℕ → List ℕ → List ℕ → Type 0
@@ -111,8 +92,8 @@ pub element_next : (g : ℕ → ℕ) (s c e m k j : ℕ) (source out part : List
     → j ≡ s → part ≡ take j (drop (m * s) source)
     → Gathered g s e source out → Gathered g s (e + 1) source (put_mid (e * s) k out part)
 element_next g s c e m k j source out part le q lm lo ej w i =
-    let ie = element_inside s c e le in
-    let n : (e + 1) * s ≡ e * s + s = let z : suc e ≡ e + 1 = omega arith in ap (λ v. v * s) (sym z) ∙ suc-mul e s in
+    let ie = element_inside e s c out le lo in
+    let n = next_is e s in
     let is : part ≡ take s (drop (m * s) source) = w ∙ ap (λ v. take v (drop (m * s) source)) ej in
     let lpart : length part ≡ s = ap length is ∙ length-take-le s (drop (m * s) source) (simp length-drop (omega arith)) in
     let at : (b : ℕ) → b < s → get_or part b 0 ≡ get_or source (g e * s + b) 0 =

@@ -1,34 +1,46 @@
--- What makes entries an order: a codec's are one, and so are the places in one, and entries among which each axis is found.
-use Rattle.std.proofs.Common.{◌≡◌, ℕ, ◌<◌, ◌≤◌, Bool, true, nat_eq, List, length, get_or, sym, ◌∙◌, subst, zero-add, arith}
+-- What makes entries an order: the front of a list that holds one, the places in one, and entries among which each axis is found.
+use Rattle.std.proofs.Common.{◌≡◌, ℕ, ◌<◌, ◌≤◌, Bool, true, nat_eq, List, length, get_or, take, sym, ap, ◌∙◌, subst, zero-add, arith}
 use Rattle.std.specs.List.{list_any, list_all, range_with_len}
 use Rattle.std.proofs.lemmas.Bool.{eqb-true, eq-eqb}
-use Rattle.std.proofs.lemmas.List.{get_or_default}
+use Rattle.std.proofs.lemmas.List.{get_or_default, get_or-take}
 use Rattle.std.proofs.lemmas.List.Folds.{Any-from_list_any, list_any_at}
 use Rattle.std.proofs.lemmas.List.FromFn.{length-range_with_len, get_or-range_with_len}
 use Rattle.std.proofs.lemmas.List.Sums.{AllPass-from_list_all, list_all-from_AllPass}
 use Rattle.form.specs.Shapes.{on}
-use Rattle.axes.specs.Axes.{place}
-use Rattle.axes.proofs.Numbers.{Onto, onto_within, onto_once}
-use Rattle.axes.proofs.Seats.{place_below}
-use Rattle.transpose.specs.declared.transpose_codec.TransposeCodec.{TransposeCodec}
+use Rattle.axes.specs.Axes.{place, Onto}
+use Rattle.axes.proofs.Numbers.{onto_within, onto_once}
+use Rattle.axes.proofs.Seats.{place_below, found}
 use Rattle.transpose.specs.Transpose.{Permutes}
-use Rattle.transpose.specs.Orders.{Ordered, met_found, onto}
 
--- a codec's entries are an order
-pub ordered_in : (t : TransposeCodec) → Ordered (on t.order) t.dims
-ordered_in t = record { ranged = t.ranged; found = t.found }
+-- whether entries are an order depends on them alone
+permutes_same : (o q : ℕ → ℕ) (d : ℕ) → ((k : ℕ) → k < d → o k ≡ q k) → Permutes o d → Permutes q d
+permutes_same o q d h p = record {
+  some = p.some;
+  few = p.few;
+  ranged = λ k l. subst (λ v. v < d) (h k l) (p.ranged k l);
+  met = λ a l. let m = p.met a l in (m.0, m.1, sym (h m.0 m.1) ∙ m.2);
+}
+
+same_entries : (xs ys : List ℕ) (d : ℕ) → ys ≡ take d xs → (k : ℕ) → k < d → on xs k ≡ on ys k
+same_entries xs ys d e k l = sym (get_or-take d xs k 0 l) ∙ ap (λ v. on v k) (sym e)
+
+pub permutes_front : (xs ys : List ℕ) (d : ℕ) → ys ≡ take d xs → Permutes (on xs) d → Permutes (on ys) d
+permutes_front xs ys d e = permutes_same (on xs) (on ys) d (same_entries xs ys d e)
+
+pub permutes_whole : (xs ys : List ℕ) (d : ℕ) → ys ≡ take d xs → Permutes (on ys) d → Permutes (on xs) d
+permutes_whole xs ys d e = permutes_same (on ys) (on xs) d (λ k l. sym (same_entries xs ys d e k l))
 
 -- the places in an order are an order too
-pub ordered_back : (t : TransposeCodec) (places : ℕ → ℕ) → ((a : ℕ) → a < t.dims → places a ≡ place (on t.order) t.dims a) → Ordered places t.dims
-ordered_back t places h =
-    let o : ℕ → ℕ = on t.order in
-    let d : ℕ = t.dims in
-    record {
-      ranged = λ a l. subst (λ v. v < d) (sym (h a l)) (place_below o d a t.some);
-      found = λ a l.
-          let r = t.ranged a l in
-          met_found places d a (o a) r (h (o a) r ∙ onto_once o d a (place o d (o a)) (onto o d t.some (ordered_in t)) l (place_below o d (o a) t.some) (t.found (o a) r));
-    }
+pub permutes_back : (order places : ℕ → ℕ) (d : ℕ) → Permutes order d → ((a : ℕ) → a < d → places a ≡ place order d a) → Permutes places d
+permutes_back order places d p h = record {
+  some = p.some;
+  few = p.few;
+  ranged = λ a l. subst (λ v. v < d) (sym (h a l)) (place_below order d a p.some);
+  met = λ a l.
+      let k = order a in
+      let r = p.ranged a l in
+      (k, r, h k r ∙ onto_once order d a (place order d k) p.met l (place_below order d k p.some) (found order d k p.met r));
+}
 
 -- an axis is among the entries
 has : List ℕ → ℕ → Bool

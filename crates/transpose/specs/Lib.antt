@@ -1,4 +1,3 @@
 pub mod Transpose
 pub mod Transposed
-pub mod Orders
 pub mod Gatherings

@@ -1,20 +1,21 @@
 -- Transposition, as Zarr v3 defines it: axis a of the encoded array is axis order a of the decoded one.
-use Rattle.std.specs.Prelude.{◌≡◌, ℕ, ◌+◌, ◌*◌, ◌<◌, ◌≤◌, Bool, true, false, cond, List, map, Some, None, ◌==◌, nat_lt, slice_index, refl}
+use Rattle.std.specs.Prelude.{◌≡◌, ℕ, ◌+◌, ◌*◌, ◌<◌, ◌≤◌, Bool, true, false, cond, List, map, None, ◌==◌, nat_lt, slice_index, refl}
 use Rattle.std.specs.List.{range_with_len}
 use Rattle.form.specs.declared.array_form.Form.{Form}
+use Rattle.form.specs.Answers.{checked}
 use Rattle.form.specs.Forms.{element_size}
 use Rattle.form.specs.Shapes.{on, sound}
 use Rattle.stage.specs.Arrays.{array_bytes}
 use Rattle.stage.specs.Gathers.{gathered, by_element}
 use Rattle.stage.specs.Single.{Coding, by_parts}
-use Rattle.axes.specs.Axes.{offset, place, seat, Within}
+use Rattle.axes.specs.Axes.{offset, place, seat, Within, Onto}
 
 -- the order is a permutation of the axes 0 to d - 1, and d is 1 to 4: its d entries are axes, and each axis is one of them
 pub record Permutes (order : ℕ → ℕ) (d : ℕ) : Type 0 where
   pub some : 1 ≤ d
   pub few : d ≤ 4
   pub ranged : (k : ℕ) → k < d → order k < d
-  pub met : (a : ℕ) → a < d → (k : ℕ) × (k < d) × (order k ≡ a)
+  pub met : Onto order d
 
 -- the form f with other lengths, where that is a form
 abbrev pub formed : (f : Form) (ls : List ℕ) (b : Bool) → sound ls f.dims (element_size f) ≡ b → Form
@@ -41,7 +42,7 @@ target order f = seat (on (new_lengths order f)) (on f.lengths) (on order) f.dim
 abbrev pub transposing : List ℕ → ℕ → Coding Form Form
 transposing order d = record {
   capability = by_parts;
-  refusal = λ f. cond (d == f.dims) None (Some 9);
+  refusal = λ f. checked (d == f.dims) 9 None;
   coded = λ f. with_lengths f (new_lengths order f);
   encoded = λ f x. gathered (by_element (source order f) (element_size f)) (array_bytes f) x;
   decoded = λ f x. gathered (by_element (target order f) (element_size f)) (array_bytes f) x;
@@ -58,12 +59,24 @@ Turns = (order : List ℕ) (d : ℕ) (f : Form)
     × (((transposing order d).coded f).data_type ≡ f.data_type)
     × (((transposing order d).coded f).fill ≡ f.fill)
 
--- each byte b of the element with index i goes to the element whose index on axis a is i (order a)
+-- where an array of the form f has byte b of its element with the index i
+abbrev pub byte_at : Form → (ℕ → ℕ) → ℕ → ℕ
+byte_at f i b = offset (on f.lengths) i f.dims * element_size f + b
+
+-- each byte of the element with the index i goes to the element whose index on axis a is i (order a)
 abbrev pub Goes : Type 0
 Goes = (order : List ℕ) (d : ℕ) (f : Form) (x : List ℕ) (i : ℕ → ℕ) (b : ℕ)
     → Permutes (on order) d
     → d ≡ f.dims
     → Within i (on f.lengths) d
     → b < element_size f
-    → slice_index ((transposing order d).encoded f x) (offset (on ((transposing order d).coded f).lengths) (λ a. i (on order a)) d * element_size f + b)
-    ≡ slice_index x (offset (on f.lengths) i d * element_size f + b)
+    → slice_index ((transposing order d).encoded f x) (byte_at ((transposing order d).coded f) (λ a. i (on order a)) b) ≡ slice_index x (byte_at f i b)
+
+-- and comes from there, where any bytes are decoded
+abbrev pub Comes : Type 0
+Comes = (order : List ℕ) (d : ℕ) (f : Form) (y : List ℕ) (i : ℕ → ℕ) (b : ℕ)
+    → Permutes (on order) d
+    → d ≡ f.dims
+    → Within i (on f.lengths) d
+    → b < element_size f
+    → slice_index ((transposing order d).decoded f y) (byte_at f i b) ≡ slice_index y (byte_at ((transposing order d).coded f) (λ a. i (on order a)) b)

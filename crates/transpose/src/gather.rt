@@ -1,9 +1,7 @@
 // Elements gathered by their indices.
-ghost use Rattle.std.specs.Prelude.{◌≡◌, ℕ, ◌<◌, length, take, Ok};
-ghost use Rattle.form.specs.Refusals.{only_if};
+ghost use Rattle.std.specs.Prelude.{◌≡◌, ℕ, ◌<◌, length};
 ghost use Rattle.form.specs.Shapes.{on};
 ghost use Rattle.stage.specs.Arrays.{element_count, array_bytes};
-ghost use Rattle.stage.specs.Calls.{InPlace, roomy};
 ghost use Rattle.axes.specs.Axes.{offset, index, Follows};
 
 use crate::transpose_codec::TransposeCodec;
@@ -23,7 +21,7 @@ pub(crate) struct Gathering {
 }
 
 impl Gathering {
-    ghost use Rattle.transpose.specs.Gatherings.{seat_in, gathered_by};
+    ghost use Rattle.transpose.specs.Gatherings.{seat_in, gathered_by, FrontTurned};
 
     // The index of an element of `by` on each axis.
     fn index(&self, element: usize) -> [usize; 4]
@@ -32,7 +30,7 @@ impl Gathering {
     {
         let mut at = [0; 4];
         let mut rest = element;
-        // By index: a zip of iter_mut was tried, and what is written through it is not known once the loop ends.
+        // By index: of what is written through iter_mut a proof knows only the length.
         for a in (0..self.of.dims).rev() {
             at[a] = rest % self.by.lengths[a];
             rest /= self.by.lengths[a];
@@ -67,7 +65,7 @@ impl Gathering {
         ensures { target.new ≡ gathered_by self.now source.now }
     {
         let size = self.of.data_type.size();
-        // By index: chunks_exact_mut was tried, and what is written through it is not known once the loop ends.
+        // By index: of what is written through chunks_exact_mut a proof knows only the length.
         for e in 0..self.of.elements() {
             let from = self.seat(e) * size;
             let to = e * size;
@@ -77,7 +75,7 @@ impl Gathering {
 
     // The same in the front of a buffer, where it stands.
     pub(crate) fn gather_in_place(&self, buf: &mut [u8], scratch: &mut [u8]) -> Result<usize, Fault>
-        ensures { InPlace (only_if (roomy (length buf.old) (length scratch.old)) 14 (Ok (array_bytes self.now.of))) (gathered_by self.now (take (array_bytes self.now.of) buf.old)) buf.new result }
+        ensures { FrontTurned (gathered_by self.now) (array_bytes self.now.of) buf.old buf.new (length scratch.old) result }
     {
         room(buf, scratch)?;
         let n = self.of.bytes();

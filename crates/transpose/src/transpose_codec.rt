@@ -3,8 +3,8 @@ ghost use Rattle.std.specs.Prelude.{◌≡◌, ℕ, ◌<◌, ◌≤◌, ◌↔�
 ghost use Rattle.form.specs.Refusals.{refusal, plain};
 ghost use Rattle.form.specs.Shapes.{on};
 ghost use Rattle.axes.specs.Axes.{place};
-ghost use Rattle.transpose.specs.Transpose.{Permutes, new_lengths, transposing, Turns, Goes};
-ghost use Rattle.transpose.specs.Transposed.{transposing_laws, transposing_arrays};
+ghost use Rattle.transpose.specs.Transpose.{Permutes, new_lengths, transposing, Turns, Goes, Comes};
+ghost use Rattle.transpose.specs.Transposed.{Permutes-prop, transposing_laws, transposing_arrays};
 
 use crate::axis_order::is_order;
 use crate::gather::Gathering;
@@ -23,10 +23,7 @@ use std::array;
 pub struct TransposeCodec {
     order: [usize; 4],
     dims: usize,
-    ghost some: { 1 ≤ dims },
-    ghost few: { dims ≤ 4 },
-    ghost ranged: { (a : ℕ) → a < dims → on order a < dims },
-    ghost found: { (a : ℕ) → a < dims → on order (place (on order) dims a) ≡ a },
+    ghost permutes: { Permutes (on order) dims } by { Permutes-prop (on order) dims },
 }
 
 impl TransposeCodec {
@@ -93,7 +90,7 @@ impl SingleCodec for TransposeCodec {
 
     ghost coding = { λ s. transposing s.order s.dims };
 
-    ghost lawful = { λ s. transposing_laws s.order s.dims (record { ranged = s.ranged; found = s.found }) };
+    ghost lawful = { λ s. transposing_laws s.order s.dims s.permutes };
 
     fn capability(&self) -> PartialDecoderCapability {
         PartialDecoderCapability::BY_PARTS
@@ -139,11 +136,12 @@ impl SingleCodec for TransposeCodec {
 }
 
 impl SingleArrayToArrayCodec for TransposeCodec {
-    ghost keeps = { λ s. transposing_arrays s.order s.dims (record { ranged = s.ranged; found = s.found }) };
+    ghost keeps = { λ s. transposing_arrays s.order s.dims s.permutes };
 }
 
-// What is proved of the format: the new lengths, and where each element goes.
+// What is proved of the format: the new lengths, where each element goes, and where it comes from.
 pub fn transpose_stands()
     ensures turns { Turns }
     ensures goes { Goes }
+    ensures comes { Comes }
 {}

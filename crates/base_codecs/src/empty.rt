@@ -34,7 +34,7 @@ impl<F: Representation + Copy + Drop> Codec for Empty<F> {
         Some(0)
     }
 
-    fn capability(&self, single: usize) -> Result<PartialDecoderCapability, Fault> {
+    fn capability(&self, _single: usize) -> Result<PartialDecoderCapability, Fault> {
         Err(Fault::Length)
     }
 
@@ -64,7 +64,7 @@ impl<F: Representation + Copy + Drop> Codec for Empty<F> {
         form: &F,
         from: usize,
         to: usize,
-        checks: bool,
+        _checks: bool,
         buf: &mut [u8],
         scratch: &mut [u8],
     ) -> Result<usize, Fault> {

@@ -1,18 +1,18 @@
 -- The bytes codec of Zarr v3: the elements in C order, each as the bytes of its number in the byte order.
-use Rattle.std.specs.Prelude.{◌≡◌, ℕ, zero, suc, true, List, [], ◌++◌, length, take, drop, reverse, Some, None, Option, nat_le}
+use Rattle.std.specs.Prelude.{◌≡◌, ℕ, true, List, length, reverse, Some, None, Option, nat_le}
+use Rattle.std.specs.List.{flat_map}
 use Rattle.form.specs.declared.array_form.Form.{Form}
 use Rattle.form.specs.Answers.{checked}
 use Rattle.form.specs.Forms.{element_size}
 use Rattle.stage.specs.Single.{Coding, by_parts}
 use Rattle.stage.specs.Arrays.{element_count, array_bytes}
-use Rattle.stage.specs.Elements.{little, big, elements_by, elements}
+use Rattle.stage.specs.Elements.{little, big, pieces, elements_by, elements}
 use Rattle.bytes_codec.specs.declared.bytes_codec.Endianness.{Endianness}
 use Rattle.bytes_codec.specs.declared.bytes_codec.Endianness.TheVariants.{Little, Big}
 
 -- n elements of w bytes, the bytes of each in reverse
 abbrev pub swapped : ℕ → ℕ → List ℕ → List ℕ
-swapped w zero x = []
-swapped w (suc n) x = reverse (take w x) ++ swapped w n (drop w x)
+swapped w n x = flat_map reverse (pieces w n x)
 
 -- an array has the least byte of an element first, so big reverses, and nothing else changes
 abbrev pub in_order : Option Endianness → ℕ → ℕ → List ℕ → List ℕ

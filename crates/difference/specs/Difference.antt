@@ -1,14 +1,11 @@
 -- The difference codec: the first element stays, and each later one becomes itself less the one before it.
-use Rattle.std.specs.Prelude.{◌≡◌, ℕ, ◌+◌, ◌<◌, true, List, [], ◌∷◌, length, take, None, Ok, Result, slice_index}
+use Rattle.std.specs.Prelude.{◌≡◌, ℕ, ◌+◌, ◌<◌, true, List, [], ◌∷◌, length, None, slice_index}
 use Rattle.form.specs.declared.array_form.Form.{Form}
 use Rattle.form.specs.declared.data_type.DataType.{DataType}
 use Rattle.form.specs.declared.data_type.DataType.TheVariants.{Float32, Float64}
-use Rattle.form.specs.declared.fault.Fault.{Fault}
-use Rattle.form.specs.Refusals.{only_if}
 use Rattle.form.specs.Types.{size_of}
 use Rattle.form.specs.Forms.{element_size}
 use Rattle.stage.specs.Stage.{Bytes}
-use Rattle.stage.specs.Calls.{InPlace, roomy}
 use Rattle.stage.specs.Single.{Coding, whole_only}
 use Rattle.stage.specs.Arrays.{element_count, array_bytes}
 use Rattle.stage.specs.Elements.{elements, bytes}
@@ -50,10 +47,6 @@ module _ (o : Operations) where
   -- the running sums
   abbrev pub sums : List ℕ → List ℕ
   sums = first_stays summed
-
--- the first n bytes of a buffer become F of them where they stand, or the refusal is 14
-abbrev pub FrontTurned : (List ℕ → List ℕ) → ℕ → List ℕ → List ℕ → ℕ → Result ℕ Fault → Type 0
-FrontTurned F n before behind scratch r = InPlace (only_if (roomy (length before) scratch) 14 (Ok n)) (F (take n before)) behind r
 
 abbrev pub differencing : Coding Form Form
 differencing = record {

@@ -1,5 +1,5 @@
 -- Elements and their bytes.
-use Rattle.std.specs.Prelude.{◌≡◌, ℕ, zero, suc, ◌+◌, ◌-◌, ◌*◌, ◌/◌, ◌%◌, ◌^◌, ◌<◌, ◌≤◌, List, [], ◌∷◌, length, take, drop, refl}
+use Rattle.std.specs.Prelude.{◌≡◌, ℕ, zero, suc, ◌+◌, ◌*◌, ◌/◌, ◌%◌, ◌^◌, ◌<◌, ◌≤◌, List, [], ◌∷◌, length, take, drop, refl}
 use Rattle.std.specs.List.{AllByRecursion}
 use Rattle.std.proofs.Common.{sym, ap, subst, ◌∙◌, suc-mul, arith}
 use Rattle.std.proofs.Math.Nat.{pow-succ'}
@@ -85,7 +85,3 @@ bytes_elements w (suc n) x h b =
     let l = length-drop w x in
     let d : digits w (little (take w x)) ≡ take w x = subst (λ k. digits k (little (take w x)) ≡ take w x) (length-take-le w x u) (digits-little (take w x) (Bytes-take w x u b)) in
     rw (d, bytes_elements w n (drop w x) (omega arith) (Bytes-drop w x u b), take-append-drop w x)
-
-pub elements_more : (w n : ℕ) (x : List ℕ) → 0 < n → elements w n x ≡ little (take w x) ∷ elements w (n - 1) (drop w x)
-elements_more w zero x h = absurd (omega arith)
-elements_more w (suc n) x h = let e : n ≡ suc n - 1 = omega arith in ap (λ k. little (take w x) ∷ elements w k (drop w x)) e

@@ -1,7 +1,8 @@
 // The difference codec: each element less the one before it.
 ghost use Rattle.std.specs.Prelude.{◌≡◌, length};
+ghost use Rattle.stage.specs.Calls.{FrontTurned};
 ghost use Rattle.stage.specs.Arrays.{element_count, array_bytes};
-ghost use Rattle.difference.specs.Difference.{group_of, first_stays, on_elements, FrontTurned, differencing, Differs, Adds, Recodes};
+ghost use Rattle.difference.specs.Difference.{group_of, first_stays, on_elements, differencing, Differs, Adds, Recodes};
 ghost use Rattle.difference.specs.Laws.{differencing_laws, differencing_arrays};
 
 use crate::differences::{Differences, Direction, Sums, turn};
@@ -76,7 +77,7 @@ impl SingleCodec for DifferenceCodec {
         turn_front::<Sums>(form, buf, scratch)
     }
 
-    fn test(&self, form: &Form, buf: &[u8]) -> Result<bool, Fault> {
+    fn test(&self, _form: &Form, buf: &[u8]) -> Result<bool, Fault> {
         enough(buf)?;
         Ok(true)
     }

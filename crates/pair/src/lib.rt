@@ -15,7 +15,7 @@ use stage::capability::PartialDecoderCapability;
 use stage::codec::{Codec, Representation};
 
 // The outer codec encodes what the inner encoded.
-#[derive(Drop)]
+#[derive(Clone, Copy, Drop)]
 pub struct Pair<O, I> {
     outer: O,
     inner: I,

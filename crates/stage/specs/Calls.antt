@@ -30,6 +30,10 @@ pub record InPlace (answer : Result ℕ Refusal) (result : List ℕ) (behind : L
   pub answer_is : told r ≡ answer
   pub bytes : (n : ℕ) → r ≡ Ok n → take n behind ≡ result
 
+-- the first n bytes of a buffer become F of them where they stand, or the refusal is 14
+abbrev pub FrontTurned : (List ℕ → List ℕ) → ℕ → List ℕ → List ℕ → ℕ → Result ℕ Fault → Type 0
+FrontTurned F n before behind scratch r = InPlace (only_if (roomy (length before) scratch) 14 (Ok n)) (F (take n before)) behind r
+
 module _ {F G : Type 0} (bF : F → ℕ) (t : Stage F G) (f : F) where
   -- the first bytes of the buffer are encoded where they stand
   abbrev pub encode_in_place : ℕ → ℕ → Result ℕ Refusal

@@ -2,6 +2,7 @@
 ghost use Rattle.std.specs.Prelude.{◌≡◌, ℕ, ◌<◌, length};
 ghost use Rattle.form.specs.Shapes.{on};
 ghost use Rattle.stage.specs.Arrays.{element_count, array_bytes};
+ghost use Rattle.stage.specs.Calls.{FrontTurned};
 ghost use Rattle.axes.specs.Axes.{offset, index, Follows};
 
 use crate::transpose_codec::TransposeCodec;
@@ -21,7 +22,7 @@ pub(crate) struct Gathering {
 }
 
 impl Gathering {
-    ghost use Rattle.transpose.specs.Gatherings.{seat_in, gathered_by, FrontTurned};
+    ghost use Rattle.transpose.specs.Gatherings.{seat_in, gathered_by};
 
     // The index of an element of `by` on each axis.
     fn index(&self, element: usize) -> [usize; 4]

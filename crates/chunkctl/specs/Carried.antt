@@ -1,5 +1,5 @@
 -- What a command leaves and answers.
-use Rattle.std.specs.Prelude.{◌≡◌, ℕ, ◌+◌, ◌-◌, ◌*◌, ◌<◌, ◌≤◌, Bool, true, false, List, ◌++◌, length, map, take, drop, replicate, Some, None, Ok, Err, vec_items, vec_len, Option, Result, OnErr}
+use Rattle.std.specs.Prelude.{◌≡◌, ℕ, ◌+◌, ◌-◌, ◌*◌, ◌<◌, ◌≤◌, List, ◌++◌, length, map, take, drop, replicate, Some, None, Ok, Err, vec_items, vec_len, Option, Result, OnErr}
 use Rattle.std.specs.List.{range_with_len}
 use Rattle.fletcher32.specs.Fletcher32.{fletcher32}
 use Rattle.form.specs.declared.fault.Fault.{Fault}
@@ -171,35 +171,6 @@ abbrev pub Kept : Buffers → Buffers → Result Answer Trouble → Type 0
 Kept old new (Ok a) = SameLengths old new
 Kept old new (Err (Refused e)) = SameLengths old new
 Kept old new (Err (Error c)) = new ≡ old
-
--- the commands that set the form, and the stages
-abbrev pub sets_form : Command → Bool
-sets_form Help = false
-sets_form (Out n) = false
-sets_form (Work n m) = false
-sets_form Peek = false
-sets_form (NewForm shape code fill) = true
-sets_form (NewStages run) = false
-sets_form Singles = false
-sets_form (Lengths n) = false
-sets_form (Encode bytes) = false
-sets_form (Undo u) = false
-sets_form (Sum bytes) = false
-sets_form (Data bytes) = false
-
-abbrev pub sets_stages : Command → Bool
-sets_stages Help = false
-sets_stages (Out n) = false
-sets_stages (Work n m) = false
-sets_stages Peek = false
-sets_stages (NewForm shape code fill) = false
-sets_stages (NewStages run) = true
-sets_stages Singles = false
-sets_stages (Lengths n) = false
-sets_stages (Encode bytes) = false
-sets_stages (Undo u) = false
-sets_stages (Sum bytes) = false
-sets_stages (Data bytes) = false
 
 -- all but the last four bytes
 abbrev pub BeforeSum : List ℕ → Result Answer Trouble → Type 0

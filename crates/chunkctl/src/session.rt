@@ -1,6 +1,6 @@
 // What is kept from line to line, and how a command is carried out.
 ghost use Rattle.std.specs.Prelude.{◌≡◌, ◌<◌, false, ◌&&◌, length, replicate, is_ok, Some, None, Ok, Err, vec_len, vec_items, IfOk, OnErr};
-ghost use Rattle.chunkctl.specs.Carried.{IsError, OutputSet, WorkSet, FormSet, StagesSet, length_of, form_of, SinglesTold, SinglesAnswer, LengthsTold, LengthsAnswer, Kept, EncodesBy, UndoesBy, Encodes, Undoes, BeforeSum, Ran, sets_form, sets_stages};
+ghost use Rattle.chunkctl.specs.Carried.{IsError, OutputSet, WorkSet, FormSet, StagesSet, length_of, form_of, SinglesTold, SinglesAnswer, LengthsTold, LengthsAnswer, Kept, EncodesBy, UndoesBy, Encodes, Undoes, BeforeSum, Ran};
 
 use crate::answer::{Answer, Single};
 use crate::command::{Command, Run, Undo};
@@ -260,8 +260,8 @@ impl Session {
     // Carries out a command. Whatever is not accepted leaves the form and the stages as they were.
     pub fn run(&mut self, heap: Global, command: Command) -> Result<Answer, Trouble>
         ensures ran { Ran command self.old self.new result }
-        ensures form { (sets_form command && is_ok result) ≡ false → self.new.form ≡ self.old.form }
-        ensures stages { (sets_stages command && is_ok result) ≡ false → self.new.stages ≡ self.old.stages }
+        ensures form { OnErr result (self.new.form ≡ self.old.form) }
+        ensures stages { OnErr result (self.new.stages ≡ self.old.stages) }
     {
         match command {
             Command::Help => Ok(Answer::Commands),

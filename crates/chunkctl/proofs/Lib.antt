@@ -1,4 +1,3 @@
 mod Called
 mod Listing
-mod Orders
 mod Seating

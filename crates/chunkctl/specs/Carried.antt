@@ -1,5 +1,5 @@
 -- What a command leaves and answers.
-use Rattle.std.specs.Prelude.{◌≡◌, ℕ, ◌+◌, ◌-◌, ◌*◌, ◌<◌, ◌≤◌, List, ◌++◌, length, map, take, drop, replicate, Some, None, Ok, Err, vec_items, vec_len, Option, Result, OnErr}
+use Rattle.std.specs.Prelude.{◌≡◌, ℕ, ◌+◌, ◌-◌, ◌*◌, ◌<◌, ◌≤◌, ◌⊎◌, List, ◌++◌, length, map, take, drop, replicate, Some, None, Ok, Err, vec_items, vec_len, Option, Result, OnErr}
 use Rattle.std.specs.List.{range_with_len}
 use Rattle.fletcher32.specs.Fletcher32.{fletcher32}
 use Rattle.form.specs.declared.fault.Fault.{Fault}
@@ -16,7 +16,7 @@ use Rattle.buffers.specs.declared.Buffers.{Buffers}
 use Rattle.chunkctl.specs.declared.trouble.Trouble.{Trouble}
 use Rattle.chunkctl.specs.declared.trouble.Trouble.TheVariants.{Refused, Error}
 use Rattle.chunkctl.specs.declared.trouble.Complaint.{Complaint}
-use Rattle.chunkctl.specs.declared.trouble.Complaint.TheVariants.{NoMemory, NoStages, ByteLength, ArrayLength, NoForm}
+use Rattle.chunkctl.specs.declared.trouble.Complaint.TheVariants.{NoMemory, BufferTooLarge, NoStages, ByteLength, ArrayLength, NoForm}
 use Rattle.chunkctl.specs.declared.answer.Answer.{Answer}
 use Rattle.chunkctl.specs.declared.answer.Answer.TheVariants.{Done, Commands, Form as Formed, Output, Bytes, Singles as SinglesAre, Lengths as LengthsAre, Sum as SumIs}
 use Rattle.chunkctl.specs.declared.session.Session.{Session}
@@ -27,11 +27,6 @@ use Rattle.chunkctl.specs.declared.command.Undo.{Undo as Undoing}
 use Rattle.chunkctl.specs.declared.seats.Stages.{Stages}
 use Rattle.chunkctl.specs.declared.seats.Stages.TheVariants.{ArrayToArray, ArrayToBytes, BytesToBytes}
 use Rattle.chunkctl.specs.Seats.{array_stage, bytes_stage, byte_stage, run_refusal, Built}
-
--- the line is no command, or makes no sense now
-abbrev pub IsError : Trouble → Type 0
-IsError (Refused e) = ⊥
-IsError (Error c) = Unit {0}
 
 -- a refusal with a number alone
 abbrev pub IsRefused : ℕ → Trouble → Type 0
@@ -77,14 +72,20 @@ lengths_of (SinglesAre v) = None
 lengths_of (LengthsAre v) = Some (vec_items v)
 lengths_of (SumIs n) = None
 
+-- why a buffer of n bytes is not made
+abbrev pub NotMade : ℕ → Trouble → Type 0
+NotMade n (Error BufferTooLarge) = 1048576 < n
+NotMade n (Error NoMemory) = Unit {0}
+NotMade n _ = ⊥
+
 -- buffers are set anew, or an error leaves all as they were
 abbrev pub OutputSet : ℕ → Buffers → Buffers → Result Answer Trouble → Type 0
-OutputSet n old new (Ok a) = (a ≡ Done) × (vec_items new.output ≡ replicate n 238) × (new.work ≡ old.work) × (new.scratch ≡ old.scratch)
-OutputSet n old new (Err t) = IsError t × (new ≡ old)
+OutputSet n old new (Ok a) = (a ≡ Done) × (n ≤ 1048576) × (vec_items new.output ≡ replicate n 238) × (new.work ≡ old.work) × (new.scratch ≡ old.scratch)
+OutputSet n old new (Err t) = NotMade n t × (new ≡ old)
 
 abbrev pub WorkSet : ℕ → ℕ → Buffers → Buffers → Result Answer Trouble → Type 0
-WorkSet n m old new (Ok a) = (a ≡ Done) × (vec_len new.work ≡ n) × (vec_len new.scratch ≡ m) × (new.output ≡ old.output)
-WorkSet n m old new (Err t) = IsError t × (new ≡ old)
+WorkSet n m old new (Ok a) = (a ≡ Done) × (n ≤ 1048576) × (m ≤ 1048576) × (vec_len new.work ≡ n) × (vec_len new.scratch ≡ m) × (new.output ≡ old.output)
+WorkSet n m old new (Err t) = (NotMade n t ⊎ NotMade m t) × (new ≡ old)
 
 -- a form that is taken is kept, and one that is refused leaves the earlier one
 abbrev pub FormSet : List ℕ → ℕ → List ℕ → Option Form → Result Answer Trouble → Type 0
@@ -184,8 +185,8 @@ Ran (Out n) s t r = (t.form ≡ s.form) × (t.stages ≡ s.stages) × OutputSet 
 Ran (Work n m) s t r = (t.form ≡ s.form) × (t.stages ≡ s.stages) × WorkSet n m s.buffers t.buffers r
 Ran Peek s t r = (r ≡ Ok (Output (vec_len s.buffers.output))) × (t ≡ s)
 Ran (NewForm shape code fill) s t r =
-    FormSet (vec_items shape) code (vec_items fill) t.form r × OnErr r (t ≡ s) × (t.stages ≡ s.stages)
-Ran (NewStages run) s t r = StagesSet run t.stages r × OnErr r (t ≡ s) × (t.form ≡ s.form)
+    FormSet (vec_items shape) code (vec_items fill) t.form r × OnErr r (t ≡ s) × (t.stages ≡ s.stages) × (t.buffers ≡ s.buffers)
+Ran (NewStages run) s t r = StagesSet run t.stages r × OnErr r (t ≡ s) × (t.form ≡ s.form) × (t.buffers ≡ s.buffers)
 Ran Singles s t r = SinglesAnswer s.stages r × (t ≡ s)
 Ran (Lengths decoded) s t r = LengthsAnswer s.stages s.form decoded r × (t ≡ s)
 Ran (Encode bytes) s t r =

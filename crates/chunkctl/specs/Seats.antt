@@ -1,7 +1,6 @@
 -- Named stages, and the seats that they take.
-use Rattle.std.specs.Prelude.{◌≡◌, ℕ, ◌+◌, Bool, ◌&&◌, List, [], ◌∷◌, ◌++◌, length, take, drop, replicate, nat_eq, None, Option, nat_le, nat_lt, vec_items}
+use Rattle.std.specs.Prelude.{◌≡◌, ℕ, ◌+◌, List, [], ◌∷◌, ◌++◌, length, take, drop, replicate, None, Option, nat_lt, vec_items}
 use Rattle.std.specs.Option.{option_or}
-use Rattle.std.specs.List.{list_all, list_any, range_with_len}
 use Rattle.form.specs.declared.array_form.Form.{Form}
 use Rattle.form.specs.Answers.{checked}
 use Rattle.stage.specs.Stage.{Stage}
@@ -12,6 +11,8 @@ use Rattle.pair.specs.declared.Pair.{Pair}
 use Rattle.base_codecs.specs.declared.single.Single.{Single}
 use Rattle.base_codecs.specs.declared.chosen.Chosen.TheVariants.{First, Second}
 use Rattle.base_codecs.specs.Chosen.{empty_choice}
+use Rattle.shuffle.specs.Shuffle.{size_refusal}
+use Rattle.transpose.specs.Transpose.{order_refusal}
 use Rattle.array_codecs.specs.Chosen.{ArrayCodec, chosen_array}
 use Rattle.byte_codecs.specs.Chosen.{ByteCodec, chosen_stage}
 use Rattle.bytes_codec.specs.declared.bytes_codec.BytesCodec.{BytesCodec}
@@ -67,21 +68,13 @@ ByteNamed Fletcher32 (Second (Second c)) = Unit {0}
 ByteNamed Fletcher32 (First c) = ⊥
 ByteNamed Fletcher32 (Second (First c)) = ⊥
 
--- each axis is among the entries
-abbrev pub has_axes : List ℕ → Bool
-has_axes order = list_all (λ axis. list_any (λ entry. nat_eq entry axis) order) (range_with_len 0 (length order))
-
--- the entries are the axes of an array, each of them once
-abbrev pub is_order : List ℕ → Bool
-is_order order = (nat_le 1 (length order) && nat_le (length order) 4) && has_axes order
-
 -- why there is no stage with the name
 abbrev pub array_refusal : ArrayName → Option ℕ
-array_refusal (Transpose order) = checked (is_order (vec_items order)) 7 None
+array_refusal (Transpose order) = order_refusal (vec_items order)
 array_refusal Difference = None
 
 abbrev pub byte_refusal : ByteName → Option ℕ
-byte_refusal (Shuffle e) = checked (nat_le 1 e && nat_le e 4096) 8 None
+byte_refusal (Shuffle e) = size_refusal e
 byte_refusal Fletcher32 = None
 
 -- why a stage is not added where so many of the seats are taken

@@ -46,9 +46,9 @@ impl fmt::Display for Single {
 
 const COMMANDS: &str = " help out work peek form stages singles lengths encode undo sum data";
 
-// The line of an answer is pushed part by part, and is not one Display: it was to be no slower than before, and through a
-// formatter the digits of a large buffer took eight times as long. What pushes takes the allocator, if it allocates, and the
-// text, as std's functions do; a struct of the two would be taken apart again at each call of them.
+// The line of an answer is pushed part by part, and is not one Display: through a formatter the digits of a large buffer take
+// eight times as long. What pushes takes the allocator, if it allocates, and the text, as std's functions do; a struct of the two
+// would be taken apart again at each call of them.
 fn push_text(out: &mut Vec<u8>, text: &str) -> Result<(), AllocError>
     ensures { OnOk result (out.new.items ≡ out.old.items ++ text.now) }
 {

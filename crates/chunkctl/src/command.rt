@@ -10,7 +10,7 @@ use text::words::{cut, next_word};
 // A stage from arrays to arrays as it is named, before the library has taken it.
 #[derive(Drop)]
 pub enum ArrayName {
-    // an order that may be none: the library refuses that
+    // numbers that may be no order: the library refuses those
     Transpose(Vec<usize>),
     Difference,
 }
@@ -51,7 +51,7 @@ impl StageName {
 #[derive(Drop)]
 pub enum Run {
     ArrayToArray(Vec<ArrayName>),
-    // of which there is one alone
+    // a bytes stage stands alone
     ArrayToBytes(Option<Endianness>),
     BytesToBytes(Vec<ByteName>),
 }

@@ -25,7 +25,9 @@ fn carry_out(
     session: &mut Session,
     line: Result<Vec<u8>, Complaint>,
 ) -> Result<Answer, Trouble>
-    ensures { OnErr line (session.new ≡ session.old) }
+    ensures line { OnErr line (session.new ≡ session.old) }
+    ensures form { OnErr result (session.new.form ≡ session.old.form) }
+    ensures stages { OnErr result (session.new.stages ≡ session.old.stages) }
 {
     let command = parse(heap, line?.as_slice())?;
     session.run(heap, command)

@@ -1,6 +1,6 @@
 // What is kept from line to line, and how a command is carried out.
-ghost use Rattle.std.specs.Prelude.{◌≡◌, ◌<◌, false, ◌&&◌, length, replicate, is_ok, Some, None, Ok, Err, vec_len, vec_items, IfOk, OnErr};
-ghost use Rattle.chunkctl.specs.Carried.{IsError, OutputSet, WorkSet, FormSet, StagesSet, length_of, form_of, SinglesTold, SinglesAnswer, LengthsTold, LengthsAnswer, Kept, EncodesBy, UndoesBy, Encodes, Undoes, BeforeSum, Ran};
+ghost use Rattle.std.specs.Prelude.{◌≡◌, ◌≤◌, length, replicate, Some, None, Ok, Err, vec_len, vec_items, IfOk, OnErr};
+ghost use Rattle.chunkctl.specs.Carried.{NotMade, OutputSet, WorkSet, FormSet, StagesSet, length_of, form_of, SinglesTold, SinglesAnswer, LengthsTold, LengthsAnswer, Kept, EncodesBy, UndoesBy, Encodes, Undoes, BeforeSum, Ran};
 
 use crate::answer::{Answer, Single};
 use crate::command::{Command, Run, Undo};
@@ -27,7 +27,7 @@ pub struct Session {
 
 // A buffer of so many bytes, each with the value.
 fn buffer(heap: Global, size: usize, value: u8) -> Result<Vec<u8>, Trouble>
-    ensures { elim result [ Ok v ↦ (v.items ≡ replicate size value) × (vec_len v ≡ size) | Err t ↦ IsError t ] }
+    ensures { elim result [ Ok v ↦ (v.items ≡ replicate size value) × (vec_len v ≡ size) × (size ≤ 1048576) | Err t ↦ NotMade size t ] }
 {
     if size > LARGEST {
         return Err(Trouble::Error(Complaint::BufferTooLarge));

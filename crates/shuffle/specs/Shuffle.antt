@@ -1,5 +1,6 @@
 -- The shuffle of numcodecs: of c elements of e bytes, byte i e + b goes to b c + i.
-use Rattle.std.specs.Prelude.{◌≡◌, ℕ, ◌+◌, ◌*◌, ◌/◌, ◌%◌, ◌<◌, ◌≤◌, true, cond, List, length, Some, Option, ◌==◌, slice_index}
+use Rattle.std.specs.Prelude.{◌≡◌, ℕ, ◌+◌, ◌*◌, ◌/◌, ◌%◌, ◌<◌, ◌≤◌, true, ◌&&◌, List, length, None, Option, ◌==◌, nat_le, slice_index}
+use Rattle.form.specs.Answers.{checked}
 use Rattle.stage.specs.Single.{Coding, whole_only}
 use Rattle.stage.specs.Stage.{too_long}
 use Rattle.stage.specs.Gathers.{gathered}
@@ -7,6 +8,10 @@ use Rattle.stage.specs.Gathers.{gathered}
 -- the element sizes that are taken
 abbrev pub Sized : ℕ → Type 0
 Sized e = (1 ≤ e) × (e ≤ 4096)
+
+-- another is refused with 8
+abbrev pub size_refusal : ℕ → Option ℕ
+size_refusal e = checked (nat_le 1 e && nat_le e 4096) 8 None
 
 -- by the columns of a table of rows times cols, place j rows + i is that of column j in row i, i cols + j
 abbrev pub by_columns : ℕ → ℕ → ℕ → ℕ
@@ -18,7 +23,7 @@ turned rows cols xs = gathered (by_columns rows cols) (rows * cols) xs
 
 -- a length that is no multiple of the element size is refused with 11, and then one over 4,096 with 12
 abbrev pub uneven : ℕ → ℕ → Option ℕ
-uneven e n = cond (n % e == 0) (too_long n) (Some 11)
+uneven e n = checked (n % e == 0) 11 (too_long n)
 
 -- n bytes in elements of e: the elements are the rows of a table, and the encoded has its columns
 abbrev pub shuffling : ℕ → Coding ℕ ℕ

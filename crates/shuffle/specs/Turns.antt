@@ -1,26 +1,11 @@
 -- A table that is turned: where each place goes, and that turning it back gives it again.
 use Rattle.std.specs.Prelude.{◌≡◌, ℕ, ◌+◌, ◌*◌, ◌/◌, ◌%◌, ◌<◌, List, length, slice_index}
-use Rattle.std.proofs.Common.{sym, refl, ap, subst, ◌∙◌, mul_comm, arith}
+use Rattle.std.proofs.Common.{refl, ap, ◌∙◌, mul_comm, arith}
 use Rattle.std.proofs.lemmas.Nat.{div-mul-add, mod-mul-add, mul-add-lt, div_below, mod_below, div-add-mod'}
-use Rattle.std.proofs.lemmas.List.{ext_get_or}
 use Rattle.form.proofs.Shapes.{positive}
 use Rattle.stage.specs.Gathers.{gathered}
 use Rattle.stage.proofs.Gathers.{get_or-gathered, gathered_back, inside}
 use Rattle.shuffle.specs.Shuffle.{by_columns, turned, Goes, Back}
-
--- two lists of h rows of w places are equal if they agree at each place
-pub agree : (w h : ℕ) (xs ys : List ℕ)
-    → length xs ≡ h * w
-    → length ys ≡ h * w
-    → ((a b : ℕ) → a < h → b < w → slice_index xs (a * w + b) ≡ slice_index ys (a * w + b))
-    → xs ≡ ys
-agree w h xs ys lx ly k =
-    ext_get_or 0 xs ys (lx ∙ sym ly)
-    (λ i lt.
-    let li : i < h * w = omega arith in
-    let pos : 0 < w = (positive h w (omega arith)).1 in
-    let e : i / w * w + i % w ≡ i = div-add-mod' i w in
-    subst (λ (x : ℕ). slice_index xs x ≡ slice_index ys x) e (k (i / w) (i % w) (div_below i w h pos li) (mod_below i w pos)))
 
 -- column j of row i
 pub by_columns_at : (rows cols i j : ℕ) → i < rows → by_columns rows cols (j * rows + i) ≡ i * cols + j

@@ -1,8 +1,9 @@
 // The shuffle codec: the first byte of each element, then the second of each, and so on.
-ghost use Rattle.std.specs.Prelude.{◌≡◌, ◌↔◌, ◌*◌, ◌%◌, ◌≤◌, length, take, Ok, IsOk, IfOk, IfErr};
-ghost use Rattle.form.specs.Refusals.{refusal, plain, unless, only_if};
+ghost use Rattle.std.specs.Prelude.{◌≡◌, ◌↔◌, ◌*◌, ◌%◌, ◌≤◌, length, take, Ok, IsOk};
+ghost use Rattle.form.specs.Answers.{Answers};
+ghost use Rattle.form.specs.Refusals.{unless, only_if};
 ghost use Rattle.stage.specs.Calls.{roomy, InPlace};
-ghost use Rattle.shuffle.specs.Shuffle.{Sized, turned, uneven, shuffling, Goes, Back};
+ghost use Rattle.shuffle.specs.Shuffle.{Sized, size_refusal, turned, uneven, shuffling, Goes, Back};
 ghost use Rattle.shuffle.specs.Laws.{shuffling_laws};
 
 use form::fault::Fault;
@@ -19,9 +20,8 @@ pub struct ShuffleCodec {
 impl ShuffleCodec {
     // A shuffle of elements of 1 to 4,096 bytes.
     pub fn new(elementsize: usize) -> Result<ShuffleCodec, Fault>
-        ensures value { IfOk result (λ s. s.elementsize ≡ elementsize) }
+        ensures answer { Answers (size_refusal elementsize) (λ s. s.elementsize ≡ elementsize) result }
         ensures sized { IsOk result ↔ Sized elementsize }
-        ensures refusal { IfErr result (λ e. refusal e ≡ plain 8) }
     {
         if !(1..=4096).contains(&elementsize) {
             return Err(Fault::ElementSize);

@@ -1,6 +1,6 @@
 -- Transposition, as Zarr v3 defines it: axis a of the encoded array is axis order a of the decoded one.
-use Rattle.std.specs.Prelude.{◌≡◌, ℕ, ◌+◌, ◌*◌, ◌<◌, ◌≤◌, Bool, true, false, cond, List, map, None, ◌==◌, nat_lt, slice_index, refl}
-use Rattle.std.specs.List.{range_with_len}
+use Rattle.std.specs.Prelude.{◌≡◌, ℕ, ◌+◌, ◌*◌, ◌<◌, ◌≤◌, Bool, true, false, cond, ◌&&◌, List, length, map, None, Option, ◌==◌, nat_eq, nat_le, nat_lt, slice_index, refl}
+use Rattle.std.specs.List.{list_all, list_any, range_with_len}
 use Rattle.form.specs.declared.array_form.Form.{Form}
 use Rattle.form.specs.Answers.{checked}
 use Rattle.form.specs.Forms.{element_size}
@@ -16,6 +16,17 @@ pub record Permutes (order : ℕ → ℕ) (d : ℕ) : Type 0 where
   pub few : d ≤ 4
   pub ranged : (k : ℕ) → k < d → order k < d
   pub met : Onto order d
+
+-- the test of an order: each axis is among the entries, of which there are one to four
+abbrev pub has_axes : List ℕ → Bool
+has_axes order = list_all (λ axis. list_any (λ entry. nat_eq entry axis) order) (range_with_len 0 (length order))
+
+abbrev pub is_order : List ℕ → Bool
+is_order order = (nat_le 1 (length order) && nat_le (length order) 4) && has_axes order
+
+-- entries that are no order are refused with 7
+abbrev pub order_refusal : List ℕ → Option ℕ
+order_refusal order = checked (is_order order) 7 None
 
 -- the form f with other lengths, where that is a form
 abbrev pub formed : (f : Form) (ls : List ℕ) (b : Bool) → sound ls f.dims (element_size f) ≡ b → Form

@@ -1,9 +1,9 @@
 // The transpose codec: the axes of an array in another order.
-ghost use Rattle.std.specs.Prelude.{◌≡◌, ℕ, ◌<◌, ◌≤◌, ◌↔◌, length, take, IsOk, IfOk, IfErr};
-ghost use Rattle.form.specs.Refusals.{refusal, plain};
+ghost use Rattle.std.specs.Prelude.{◌≡◌, ℕ, ◌<◌, ◌≤◌, ◌↔◌, length, take, IsOk};
+ghost use Rattle.form.specs.Answers.{Answers};
 ghost use Rattle.form.specs.Shapes.{on};
 ghost use Rattle.axes.specs.Axes.{place};
-ghost use Rattle.transpose.specs.Transpose.{Permutes, new_lengths, transposing, Turns, Goes, Comes};
+ghost use Rattle.transpose.specs.Transpose.{Permutes, order_refusal, new_lengths, transposing, Turns, Goes, Comes};
 ghost use Rattle.transpose.specs.Transposed.{Permutes-prop, transposing_laws, transposing_arrays};
 
 use crate::axis_order::is_order;
@@ -29,10 +29,8 @@ pub struct TransposeCodec {
 impl TransposeCodec {
     // A transposition by an order of one to four axes.
     pub fn new(order: &[usize]) -> Result<TransposeCodec, Fault>
+        ensures answer { Answers (order_refusal order.now) (λ t. (t.dims ≡ length order.now) × (take t.dims t.order ≡ order.now)) result }
         ensures ordered { IsOk result ↔ Permutes (on order.now) (length order.now) }
-        ensures dims { IfOk result (λ t. t.dims ≡ length order.now) }
-        ensures entries { IfOk result (λ t. take t.dims t.order ≡ order.now) }
-        ensures refusal { IfErr result (λ e. refusal e ≡ plain 7) }
     {
         if !is_order(order) {
             return Err(Fault::AxisOrder);

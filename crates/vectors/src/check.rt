@@ -30,25 +30,16 @@ fn undo_all<C: Codec>(
 }
 
 // Whether a call left just these bytes in the output.
-fn left(buffers: &Buffers, count: Result<usize, Fault>, bytes: &[u8]) -> bool {
+fn output_is(buffers: &Buffers, count: Result<usize, Fault>, bytes: &[u8]) -> bool {
     matches!(count, Ok(n) if buffers.output.as_slice().get(..n) == Some(bytes))
 }
 
-// The shuffle of elements of a size, which a vector of it has to say.
-fn shuffle(params: &Params) -> Result<ByteCodec, Fault> {
-    let Params::ElementSize(size) = params else {
-        return Err(Fault::ElementSize);
-    };
-    Ok(byte_codec::shuffle(ShuffleCodec::new(*size)?))
+fn shuffle(size: usize) -> Result<ByteCodec, Fault> {
+    Ok(byte_codec::shuffle(ShuffleCodec::new(size)?))
 }
 
-// The transposition by an order of axes, which a vector of it has to say.
-fn transpose(params: &Params) -> Result<ArrayCodec, Fault> {
-    let Params::Axes { order, .. } = params else {
-        return Err(Fault::AxisOrder);
-    };
-    let codec = TransposeCodec::new(order.as_slice())?;
-    Ok(array_codec::transpose(codec))
+fn transpose(order: &[usize]) -> Result<ArrayCodec, Fault> {
+    Ok(array_codec::transpose(TransposeCodec::new(order)?))
 }
 
 // The form of an array with fill value 0.
@@ -58,16 +49,10 @@ fn array_form(shape: &[usize], code: usize) -> Result<Form, Fault> {
     Form::new(shape, code, &fill[..size])
 }
 
-// The form of the array of so many bytes that a vector has; one that says no shape has one dimension.
-fn form_of(params: &Params, bytes: usize) -> Result<Form, Fault> {
-    match params {
-        Params::DataType(code) => {
-            let size = DataType::try_from(*code)?.size();
-            array_form(&[bytes / size], *code)
-        }
-        Params::Axes { code, shape, .. } => array_form(shape.as_slice(), *code),
-        Params::Nothing | Params::ElementSize(_) => Err(Fault::DataType),
-    }
+// The same of an array of one dimension that has so many bytes.
+fn row_form(bytes: usize, code: usize) -> Result<Form, Fault> {
+    let size = DataType::try_from(code)?.size();
+    array_form(&[bytes / size], code)
 }
 
 // Whether the input is encoded to the peer's output, and this is undone to the input.
@@ -82,11 +67,11 @@ fn both_ways<C: Codec>(
     };
     let input = vector.input.as_slice();
     let count = buffers.encode(codec, form, input);
-    if !left(buffers, count, output.as_slice()) {
+    if !output_is(buffers, count, output.as_slice()) {
         return false;
     }
     let count = undo_all(buffers, codec, form, output.as_slice());
-    left(buffers, count, input)
+    output_is(buffers, count, input)
 }
 
 // Whether the shuffle refuses the length, as the peer does.
@@ -114,39 +99,41 @@ fn finds_damage(buffers: &mut Buffers, vector: &Vector, checksum: &ByteCodec) ->
     vector.output.is_none() && matches!(undone, Err(Fault::Checksum(0)))
 }
 
-// The same as `agrees`, unless a codec or a form is refused.
+// Whether the vector agrees, or why the library takes no such codec or form. Parameters of another kind agree with nothing.
 fn run(buffers: &mut Buffers, vector: &Vector) -> Result<bool, Fault> {
-    let params = &vector.params;
     let bytes = vector.input.len();
     let checksum = byte_codec::fletcher32(Fletcher32Codec::new());
-    let equal = match vector.kind {
-        Kind::Shuffle => both_ways(buffers, vector, &shuffle(params)?, &bytes),
-        Kind::ShuffleRefuse => refuses_length(buffers, vector, &shuffle(params)?),
-        Kind::ChecksumFunction => stored_checksum(buffers, vector, &checksum),
-        Kind::ChecksumFile => both_ways(buffers, vector, &checksum, &bytes),
-        Kind::ChecksumFileBad => finds_damage(buffers, vector, &checksum),
-        Kind::ShuffleChecksum => {
-            let stages = Pair::new(checksum, shuffle(params)?);
+    let equal = match (vector.kind, &vector.params) {
+        (Kind::Shuffle, Params::ElementSize(size)) => {
+            both_ways(buffers, vector, &shuffle(*size)?, &bytes)
+        }
+        (Kind::ShuffleRefuse, Params::ElementSize(size)) => {
+            refuses_length(buffers, vector, &shuffle(*size)?)
+        }
+        (Kind::ChecksumFunction, Params::Nothing) => stored_checksum(buffers, vector, &checksum),
+        (Kind::ChecksumFile, Params::Nothing) => both_ways(buffers, vector, &checksum, &bytes),
+        (Kind::ChecksumFileBad, Params::Nothing) => finds_damage(buffers, vector, &checksum),
+        (Kind::ShuffleChecksum, Params::ElementSize(size)) => {
+            let stages = Pair::new(checksum, shuffle(*size)?);
             both_ways(buffers, vector, &stages, &bytes)
         }
-        Kind::ChecksumShuffle => {
-            let stages = Pair::new(shuffle(params)?, checksum);
+        (Kind::ChecksumShuffle, Params::ElementSize(size)) => {
+            let stages = Pair::new(shuffle(*size)?, checksum);
             both_ways(buffers, vector, &stages, &bytes)
         }
-        Kind::Transpose => {
-            let form = form_of(params, bytes)?;
-            both_ways(buffers, vector, &transpose(params)?, &form)
+        (Kind::Transpose, Params::Axes { code, shape, order }) => {
+            let form = array_form(shape.as_slice(), *code)?;
+            both_ways(buffers, vector, &transpose(order.as_slice())?, &form)
         }
-        Kind::Difference => {
-            let form = form_of(params, bytes)?;
+        (Kind::Difference, Params::DataType(code)) => {
             let codec = array_codec::difference(DifferenceCodec::new());
-            both_ways(buffers, vector, &codec, &form)
+            both_ways(buffers, vector, &codec, &row_form(bytes, *code)?)
         }
-        Kind::BytesBig => {
-            let form = form_of(params, bytes)?;
+        (Kind::BytesBig, Params::DataType(code)) => {
             let codec = Single::new(BytesCodec::new(Some(Endianness::Big)));
-            both_ways(buffers, vector, &codec, &form)
+            both_ways(buffers, vector, &codec, &row_form(bytes, *code)?)
         }
+        _ => false,
     };
     Ok(equal)
 }

@@ -2,3 +2,4 @@ pub mod Kind
 pub mod Line
 pub mod Params
 pub mod Tally
+pub mod Lengths

@@ -1,5 +1,7 @@
 // Runs a vector through the library. The buffers, the codec and the form are lent one by one: the first serve every vector, the
 // others one.
+ghost use Rattle.vectors.specs.Lengths.{SameLengths};
+
 use crate::kind::Kind;
 use crate::params::Params;
 use crate::vector::Vector;
@@ -24,7 +26,9 @@ fn undo_all<C: Codec>(
     codec: &C,
     form: &C::Decoded,
     input: &[u8],
-) -> Result<usize, Fault> {
+) -> Result<usize, Fault>
+    ensures { SameLengths buffers.old buffers.new }
+{
     let singles = codec.singles().ok_or(Fault::Length)?;
     buffers.undo(codec, form, 0, singles, true, input)
 }
@@ -56,12 +60,9 @@ fn row_form(bytes: usize, code: usize) -> Result<Form, Fault> {
 }
 
 // Whether the input is encoded to the peer's output, and this is undone to the input.
-fn both_ways<C: Codec>(
-    buffers: &mut Buffers,
-    vector: &Vector,
-    codec: &C,
-    form: &C::Decoded,
-) -> bool {
+fn both_ways<C: Codec>(buffers: &mut Buffers, vector: &Vector, codec: &C, form: &C::Decoded) -> bool
+    ensures { SameLengths buffers.old buffers.new }
+{
     let Some(output) = &vector.output else {
         return false;
     };
@@ -75,14 +76,18 @@ fn both_ways<C: Codec>(
 }
 
 // Whether the shuffle refuses the length, as the peer does.
-fn refuses_length(buffers: &mut Buffers, vector: &Vector, shuffle: &ByteCodec) -> bool {
+fn refuses_length(buffers: &mut Buffers, vector: &Vector, shuffle: &ByteCodec) -> bool
+    ensures { SameLengths buffers.old buffers.new }
+{
     let input = vector.input.as_slice();
     let count = buffers.encode(shuffle, &input.len(), input);
     vector.output.is_none() && matches!(count, Err(Fault::Multiple))
 }
 
 // Whether the checksum that is stored after the input is the peer's.
-fn stored_checksum(buffers: &mut Buffers, vector: &Vector, checksum: &ByteCodec) -> bool {
+fn stored_checksum(buffers: &mut Buffers, vector: &Vector, checksum: &ByteCodec) -> bool
+    ensures { SameLengths buffers.old buffers.new }
+{
     let Some(output) = &vector.output else {
         return false;
     };
@@ -92,7 +97,9 @@ fn stored_checksum(buffers: &mut Buffers, vector: &Vector, checksum: &ByteCodec)
 }
 
 // Whether the checksum does not fit the data before it, which the peer finds too.
-fn finds_damage(buffers: &mut Buffers, vector: &Vector, checksum: &ByteCodec) -> bool {
+fn finds_damage(buffers: &mut Buffers, vector: &Vector, checksum: &ByteCodec) -> bool
+    ensures { SameLengths buffers.old buffers.new }
+{
     let input = vector.input.as_slice();
     let decoded = input.len().saturating_sub(4);
     let undone = undo_all(buffers, checksum, &decoded, input);
@@ -100,7 +107,9 @@ fn finds_damage(buffers: &mut Buffers, vector: &Vector, checksum: &ByteCodec) ->
 }
 
 // Whether the vector agrees, or why the library takes no such codec or form. Parameters of another kind agree with nothing.
-fn run(buffers: &mut Buffers, vector: &Vector) -> Result<bool, Fault> {
+fn run(buffers: &mut Buffers, vector: &Vector) -> Result<bool, Fault>
+    ensures { SameLengths buffers.old buffers.new }
+{
     let bytes = vector.input.len();
     let checksum = byte_codec::fletcher32(Fletcher32Codec::new());
     let equal = match (vector.kind, &vector.params) {
@@ -138,7 +147,9 @@ fn run(buffers: &mut Buffers, vector: &Vector) -> Result<bool, Fault> {
     Ok(equal)
 }
 
-// Whether the library does what the peer does. A codec or a form that is refused agrees with nothing.
-pub fn agrees(buffers: &mut Buffers, vector: &Vector) -> bool {
+// Whether the library does what the peer does. The buffers keep their lengths for the next vector. A codec or a form that is refused agrees with nothing.
+pub fn agrees(buffers: &mut Buffers, vector: &Vector) -> bool
+    ensures { SameLengths buffers.old buffers.new }
+{
     run(buffers, vector).unwrap_or(false)
 }

@@ -17,10 +17,10 @@ use Rattle.array_codecs.specs.Chosen.{ArrayCodec, chosen_array}
 use Rattle.byte_codecs.specs.Chosen.{ByteCodec, chosen_stage}
 use Rattle.bytes_codec.specs.declared.bytes_codec.BytesCodec.{BytesCodec}
 use Rattle.bytes_codec.specs.ByteOrder.{byte_ordering}
-use Rattle.chunkctl.specs.declared.command.ArrayName.{ArrayName}
-use Rattle.chunkctl.specs.declared.command.ArrayName.TheVariants.{Transpose, Difference}
-use Rattle.chunkctl.specs.declared.command.ByteName.{ByteName}
-use Rattle.chunkctl.specs.declared.command.ByteName.TheVariants.{Shuffle, Fletcher32}
+use Rattle.stage_names.specs.declared.name.ArrayName.{ArrayName}
+use Rattle.stage_names.specs.declared.name.ArrayName.TheVariants.{Transpose, Difference}
+use Rattle.stage_names.specs.declared.name.ByteName.{ByteName}
+use Rattle.stage_names.specs.declared.name.ByteName.TheVariants.{Shuffle, Fletcher32}
 use Rattle.chunkctl.specs.declared.command.Run.{Run}
 use Rattle.chunkctl.specs.declared.command.Run.TheVariants.{ArrayToArray as ArrayNames, ArrayToBytes as BytesName, BytesToBytes as ByteNames}
 use Rattle.chunkctl.specs.declared.seats.Stages.{Stages}

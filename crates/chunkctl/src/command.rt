@@ -2,50 +2,13 @@
 use crate::trouble::Complaint;
 use bytes_codec::bytes_codec::Endianness;
 use form::data_type::DataType;
+use stage_names::name::{ArrayName, ByteName, StageName};
+use stage_names::word::parse_stages;
 use std::alloc::Global;
 use text::hex::parse_hex;
-use text::number::parse_number;
-use text::words::{cut, next_word};
-
-// A stage from arrays to arrays as it is named, before the library has taken it.
-#[derive(Drop)]
-pub enum ArrayName {
-    // numbers that may be no order: the library refuses those
-    Transpose(Vec<usize>),
-    Difference,
-}
-
-// The same of one from bytes to bytes.
-#[derive(Clone, Copy)]
-pub enum ByteName {
-    Shuffle(usize),
-    Fletcher32,
-}
-
-// A stage of any kind.
-#[derive(Drop)]
-pub enum StageName {
-    ArrayToArray(ArrayName),
-    // the byte order, if it has one
-    ArrayToBytes(Option<Endianness>),
-    BytesToBytes(ByteName),
-}
-
-impl StageName {
-    fn array_to_array(self) -> Result<ArrayName, Complaint> {
-        match self {
-            StageName::ArrayToArray(name) => Ok(name),
-            _ => Err(Complaint::StageKinds),
-        }
-    }
-
-    fn bytes_to_bytes(self) -> Result<ByteName, Complaint> {
-        match self {
-            StageName::BytesToBytes(name) => Ok(name),
-            _ => Err(Complaint::StageKinds),
-        }
-    }
-}
+use text::list::parse_list;
+use text::number::parse_size;
+use text::words::next_word;
 
 // Stages of one kind, in encode order.
 #[derive(Drop)]
@@ -56,19 +19,33 @@ pub enum Run {
     BytesToBytes(Vec<ByteName>),
 }
 
+fn array_to_array(name: StageName) -> Result<ArrayName, Complaint> {
+    match name {
+        StageName::ArrayToArray(name) => Ok(name),
+        _ => Err(Complaint::StageKinds),
+    }
+}
+
+fn bytes_to_bytes(name: StageName) -> Result<ByteName, Complaint> {
+    match name {
+        StageName::BytesToBytes(name) => Ok(name),
+        _ => Err(Complaint::StageKinds),
+    }
+}
+
 impl Run {
     // The stages as a run of the kind of the first; no stages are a run over bytes.
     fn of(heap: Global, names: Vec<StageName>) -> Result<Run, Complaint> {
         match names.as_slice() {
             [StageName::ArrayToArray(_), ..] => names
                 .into_iter()
-                .map(StageName::array_to_array)
+                .map(array_to_array)
                 .try_collect(heap)
                 .map(Run::ArrayToArray),
             [StageName::ArrayToBytes(endian)] => Ok(Run::ArrayToBytes(*endian)),
             _ => names
                 .into_iter()
-                .map(StageName::bytes_to_bytes)
+                .map(bytes_to_bytes)
                 .try_collect(heap)
                 .map(Run::BytesToBytes),
         }
@@ -148,27 +125,8 @@ impl<'a> Words<'a> {
     }
 }
 
-fn parse_size(word: &[u8]) -> Option<usize> {
-    Some(parse_number(word)? as usize)
-}
-
-// The parts of a word that a separator joins, as `parse` reads each, or none for `-`.
-fn parse_list<T: Drop, F: Fn(&[u8]) -> Result<T, Complaint> + Drop>(
-    heap: Global,
-    word: &[u8],
-    separator: u8,
-    parse: F,
-) -> Result<Vec<T>, Complaint>
-    requires { (f : F) (a : _) → F.FnMut.pre f a }
-{
-    match word {
-        b"-" => Ok(Vec::new(heap)),
-        _ => word.split(|b| *b == separator).map(parse).try_collect(heap),
-    }
-}
-
-fn parse_length(word: &[u8]) -> Result<usize, Complaint> {
-    parse_size(word).ok_or(Complaint::Shape)
+fn parse_shape(heap: Global, word: &[u8]) -> Result<Vec<usize>, Complaint> {
+    parse_list(heap, word, b'x')?.ok_or(Complaint::Shape)
 }
 
 // The code of a data type, by its name or as a number. Two names have codes that no data type of the library has: it refuses
@@ -192,43 +150,9 @@ fn parse_type(word: &[u8]) -> Result<usize, Complaint> {
     Ok(usize::from(data_type))
 }
 
-// A number in the word of a stage.
-fn parse_parameter(word: &[u8]) -> Result<usize, Complaint> {
-    parse_size(word).ok_or(Complaint::Stage)
-}
-
-// A byte order, or none.
-fn parse_endian(word: &[u8]) -> Result<Option<Endianness>, Complaint> {
-    match word {
-        b"little" => Ok(Some(Endianness::Little)),
-        b"big" => Ok(Some(Endianness::Big)),
-        b"none" => Ok(None),
-        _ => Err(Complaint::Stage),
-    }
-}
-
-fn parse_stage(heap: Global, word: &[u8]) -> Result<StageName, Complaint> {
-    match cut(word, b':') {
-        (b"transpose", Some(order)) => {
-            let order = parse_list(heap, order, b',', parse_parameter)?;
-            Ok(StageName::ArrayToArray(ArrayName::Transpose(order)))
-        }
-        (b"difference", None) => Ok(StageName::ArrayToArray(ArrayName::Difference)),
-        (b"bytes", Some(endian)) => Ok(StageName::ArrayToBytes(parse_endian(endian)?)),
-        (b"shuffle", Some(size)) => {
-            let size = parse_parameter(size)?;
-            Ok(StageName::BytesToBytes(ByteName::Shuffle(size)))
-        }
-        (b"fletcher32", None) => Ok(StageName::BytesToBytes(ByteName::Fletcher32)),
-        _ => Err(Complaint::Stage),
-    }
-}
-
 fn parse_run(heap: Global, word: &[u8]) -> Result<Run, Complaint> {
-    Run::of(
-        heap,
-        parse_list(heap, word, b'+', |stage| parse_stage(heap, stage))?,
-    )
+    let names = parse_stages(heap, word)?;
+    Run::of(heap, names.ok_or(Complaint::Stage)?)
 }
 
 fn parse_switch(word: &[u8]) -> Result<bool, Complaint> {
@@ -260,7 +184,7 @@ fn parse_words(name: &[u8], words: &mut Words<'_>) -> Result<Command, Complaint>
         },
         b"peek" => Command::Peek,
         b"form" => Command::Form {
-            shape: parse_list(words.heap, words.next()?, b'x', parse_length)?,
+            shape: parse_shape(words.heap, words.next()?)?,
             code: parse_type(words.next()?)?,
             fill: words.hex()?,
         },

@@ -3,7 +3,7 @@ ghost use Rattle.std.specs.Prelude.{◌≡◌, ℕ, length, slice_set, Option};
 ghost use Rattle.form.specs.Answers.{Answers};
 ghost use Rattle.chunkctl.specs.Seats.{add_refusal, names_refusal, Seated, ArrayNamed, array_refusal, ByteNamed, byte_refusal, run_refusal, Built, array_names_refusal, byte_names_refusal, ArraysSeated, BytesSeated};
 
-use crate::command::{ArrayName, ByteName, Run};
+use crate::command::Run;
 use array_codecs::array_codec::{self, ArrayCodec};
 use base_codecs::single::Single;
 use byte_codecs::byte_codec::{self, ByteCodec};
@@ -13,6 +13,7 @@ use fletcher32::fletcher32_codec::Fletcher32Codec;
 use form::fault::Fault;
 use pair::Pair;
 use shuffle::shuffle_codec::ShuffleCodec;
+use stage_names::name::{ArrayName, ByteName};
 use transpose::transpose_codec::TransposeCodec;
 
 // The first stage in encode order has the innermost seat, and empty codecs have the outermost.

@@ -24,10 +24,10 @@ byte_of None low = None
 byte_of (Some h) None = None
 byte_of (Some h) (Some l) = Some (16 * h + l)
 
-abbrev pub in_front : Option ℕ → Option (List ℕ) → Option (List ℕ)
-in_front None bs = None
-in_front (Some b) None = None
-in_front (Some b) (Some bs) = Some (b ∷ bs)
+abbrev pub in_front : {A : Type 0} → Option A → Option (List A) → Option (List A)
+in_front None xs = None
+in_front (Some x) None = None
+in_front (Some x) (Some xs) = Some (x ∷ xs)
 
 abbrev pub hex_bytes : List ℕ → Option (List ℕ)
 hex_bytes [] = Some []

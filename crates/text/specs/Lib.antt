@@ -1,3 +1,4 @@
 pub mod Hex
+pub mod List
 pub mod Number
 pub mod Words

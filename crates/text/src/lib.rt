@@ -1,6 +1,7 @@
-// Hexadecimal, decimal numbers, and the words of a line of bytes.
+// Hexadecimal, decimal numbers, the words of a line of bytes, and lists in a word.
 #![tactic(auto)]
 
 pub mod hex;
+pub mod list;
 pub mod number;
 pub mod words;

@@ -1,7 +1,8 @@
 // Decimal numbers without a sign.
-ghost use Rattle.std.specs.Prelude.{◌≡◌, ◌++◌, is_ok, if◌then◌else◌, decimal};
+ghost use Rattle.std.specs.Prelude.{◌≡◌, ℕ, ◌++◌, is_ok, if◌then◌else◌, decimal};
 ghost use Rattle.text.specs.Number.{number_of, ReadsBack};
 
+use crate::list::FromWord;
 use std::alloc::{AllocError, Global};
 
 // The number that a word of digits writes, if 64 bits hold it.
@@ -13,6 +14,25 @@ pub fn parse_number(word: &[u8]) -> Option<u64>
         return None;
     }
     u64::from_str_radix(str::from_utf8(word).ok()?, 10).ok()
+}
+
+// The same of a size, which 64 bits hold too.
+pub fn parse_size(word: &[u8]) -> Option<usize>
+    ensures { result ≡ number_of word.now }
+{
+    Some(parse_number(word)? as usize)
+}
+
+impl FromWord for usize {
+    ghost Said = { ℕ };
+
+    ghost said = { λ n. n };
+
+    ghost says = { number_of };
+
+    fn from_word(_heap: Global, word: &[u8]) -> Result<Option<usize>, AllocError> {
+        Ok(parse_size(word))
+    }
 }
 
 // Adds the digits of a number; without memory for that it adds nothing, which is why `format!` makes them apart first. The

@@ -1,7 +1,7 @@
 // How a word says a stage: `transpose:ORDER`, `difference`, `bytes:` and a byte order or `none`, `shuffle:SIZE` or `fletcher32`.
 ghost use Rattle.std.specs.Prelude.{◌≡◌, map, IfOk, vec_items};
 ghost use Rattle.std.specs.Option.{option_map};
-ghost use Rattle.stage_names.specs.Names.{Said, said, said_array, said_byte, array_of, endian_of, bytes_of, byte_of, stage_of, stages_of};
+ghost use Rattle.stage_names.specs.Names.{SaidStage, said_stage, said_array, said_byte, array_of, endian_of, byte_of, stage_of, stages_of, StageWords};
 
 use crate::name::{ArrayName, ByteName, StageName};
 use bytes_codec::bytes_codec::Endianness;
@@ -23,7 +23,7 @@ fn array_name(heap: Global, word: &[u8]) -> Result<Option<ArrayName>, AllocError
     Ok(order.map(ArrayName::Transpose))
 }
 
-// A byte order, or none.
+// A byte order, or none: the inner Option is the codec's own.
 fn endianness(word: &[u8]) -> Option<Option<Endianness>>
     ensures { result ≡ endian_of word.now }
 {
@@ -47,9 +47,9 @@ fn byte_name(word: &[u8]) -> Option<ByteName>
 }
 
 impl FromWord for StageName {
-    ghost Said = { Said };
+    ghost Said = { SaidStage };
 
-    ghost said = { said };
+    ghost said = { said_stage };
 
     ghost says = { stage_of };
 
@@ -67,7 +67,12 @@ impl FromWord for StageName {
 
 // The stages that a word says, joined by `+`, with `-` for none, or None where some part says none.
 pub fn parse_stages(heap: Global, word: &[u8]) -> Result<Option<Vec<StageName>>, AllocError>
-    ensures { IfOk result (λ o. option_map (λ v. map said (vec_items v)) o ≡ stages_of word.now) }
+    ensures { IfOk result (λ o. option_map (λ v. map said_stage (vec_items v)) o ≡ stages_of word.now) }
 {
     parse_list(heap, word, b'+')
 }
+
+// Which words are read as a stage.
+pub fn stage_words_stand()
+    ensures { StageWords }
+{}

@@ -1,3 +1,4 @@
 mod Fronts
 mod HexLaws
 mod NumberLaws
+mod Parts

@@ -1,7 +1,7 @@
 // Words that say a value, and lists of such words.
 ghost use Rattle.std.specs.Prelude.{◌≡◌, ℕ, List, Option, map, IfOk, vec_items};
 ghost use Rattle.std.specs.Option.{option_map};
-ghost use Rattle.text.specs.List.{parts_of, listed, all_said};
+ghost use Rattle.text.specs.List.{parts_of, listed, all_said, PartsJoin, PartsBack};
 
 use std::alloc::{AllocError, Global};
 
@@ -49,3 +49,9 @@ pub fn parse_list<T: FromWord>(
     }
     Ok(Some(values))
 }
+
+// What the parts of a word are.
+pub fn parts_stand()
+    ensures join { PartsJoin }
+    ensures back { PartsBack }
+{}

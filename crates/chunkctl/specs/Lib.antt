@@ -1,4 +1,5 @@
 pub mod Seats
 pub mod Carried
 pub mod Lines
+pub mod Lists
 pub mod Shown

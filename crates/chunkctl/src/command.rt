@@ -1,4 +1,9 @@
 // The commands, and how a line says one.
+ghost use Rattle.text.specs.List.{listed, all_said};
+ghost use Rattle.text.specs.Number.{number_of};
+ghost use Rattle.stage_names.specs.Names.{said_stage, stages_of};
+ghost use Rattle.chunkctl.specs.Lists.{ListRead};
+
 use crate::trouble::Complaint;
 use bytes_codec::bytes_codec::Endianness;
 use form::data_type::DataType;
@@ -125,7 +130,10 @@ impl<'a> Words<'a> {
     }
 }
 
-fn parse_shape(heap: Global, word: &[u8]) -> Result<Vec<usize>, Complaint> {
+// The lengths that a word joins by x, or none for `-`.
+fn parse_shape(heap: Global, word: &[u8]) -> Result<Vec<usize>, Complaint>
+    ensures { ListRead (λ n. n) (all_said number_of (listed 120 word.now)) Complaint.Shape result }
+{
     parse_list(heap, word, b'x')?.ok_or(Complaint::Shape)
 }
 
@@ -150,9 +158,11 @@ fn parse_type(word: &[u8]) -> Result<usize, Complaint> {
     Ok(usize::from(data_type))
 }
 
-fn parse_run(heap: Global, word: &[u8]) -> Result<Run, Complaint> {
-    let names = parse_stages(heap, word)?;
-    Run::of(heap, names.ok_or(Complaint::Stage)?)
+// The stages that a word joins by +, or none for `-`.
+fn parse_names(heap: Global, word: &[u8]) -> Result<Vec<StageName>, Complaint>
+    ensures { ListRead said_stage (stages_of word.now) Complaint.Stage result }
+{
+    parse_stages(heap, word)?.ok_or(Complaint::Stage)
 }
 
 fn parse_switch(word: &[u8]) -> Result<bool, Complaint> {
@@ -188,7 +198,7 @@ fn parse_words(name: &[u8], words: &mut Words<'_>) -> Result<Command, Complaint>
             code: parse_type(words.next()?)?,
             fill: words.hex()?,
         },
-        b"stages" => Command::Stages(parse_run(words.heap, words.next()?)?),
+        b"stages" => Command::Stages(Run::of(words.heap, parse_names(words.heap, words.next()?)?)?),
         b"singles" => Command::Singles,
         b"lengths" => Command::Lengths(words.decoded()?),
         b"encode" => Command::Encode(words.hex()?),

@@ -1,0 +1,2 @@
+pub mod Place
+pub mod Whole

@@ -1,0 +1,86 @@
+// A chain of codecs: from arrays to arrays, from arrays to bytes, from bytes to bytes.
+ghost use Rattle.std.specs.Prelude.{◌≡◌, ◌^◌, ◌<◌, ◌↔◌, length, IsSome, IfSome, None};
+ghost use Rattle.form.specs.Answers.{Answers};
+ghost use Rattle.codec_chain.specs.Chain.{chain_stage};
+ghost use Rattle.codec_chain.specs.Place.{cache_index, Placed};
+
+use crate::fitted_chain::FittedChain;
+use form::array_form::Form;
+use form::fault::Fault;
+use pair::Pair;
+use stage::array_to_array::ArrayToArrayCodec;
+use stage::array_to_bytes::ArrayToBytesCodec;
+use stage::codec::Codec;
+
+// For any codecs of the three kinds. Several of a kind are a pair of them, and none is the empty codec.
+#[derive(Drop)]
+pub struct CodecChain<
+    A: ArrayToArrayCodec,
+    B: ArrayToBytesCodec,
+    S: Codec<Decoded = usize, Encoded = usize>,
+> {
+    stages: Pair<S, Pair<B, A>>,
+    // how many singles there are
+    singles: usize,
+    ghost counted: { singles ≡ length (chain_stage A.Codec.meaning B.Codec.meaning S.Codec.meaning stages).singles },
+}
+
+impl<
+    A: ArrayToArrayCodec + Drop,
+    B: ArrayToBytesCodec + Drop,
+    S: Codec<Decoded = usize, Encoded = usize> + Drop,
+> CodecChain<A, B, S>
+{
+    // The chain of the three, if a usize counts its singles.
+    pub fn new(
+        array_to_array: A,
+        array_to_bytes: B,
+        bytes_to_bytes: S,
+    ) -> Option<CodecChain<A, B, S>>
+        ensures made { IfSome result (λ c. c.stages ≡ record { outer = bytes_to_bytes; inner = record { outer = array_to_bytes; inner = array_to_array } }) }
+        ensures counted { IsSome result ↔ (length (chain_stage A.Codec.meaning B.Codec.meaning S.Codec.meaning (record { outer = bytes_to_bytes; inner = record { outer = array_to_bytes; inner = array_to_array } })).singles < 2 ^ 64) }
+    {
+        let stages = Pair::new(bytes_to_bytes, Pair::new(array_to_bytes, array_to_array));
+        let singles = stages.singles()?;
+        Some(CodecChain { stages, singles })
+    }
+
+    // The chain as one codec.
+    pub fn stages(&self) -> &Pair<S, Pair<B, A>>
+        ensures { result.now ≡ self.now.stages }
+    {
+        &self.stages
+    }
+
+    // How many singles there are.
+    pub fn singles(&self) -> usize
+        ensures { result ≡ length (chain_stage A.Codec.meaning B.Codec.meaning S.Codec.meaning self.now.stages).singles }
+    {
+        self.singles
+    }
+
+    // The place where what is decoded is kept: none where every single has both capabilities, and else the least that meets the
+    // rule.
+    pub fn cache_index(&self) -> Option<usize>
+        ensures value { result ≡ cache_index (chain_stage A.Codec.meaning B.Codec.meaning S.Codec.meaning self.now.stages).singles }
+        ensures rule { Placed (chain_stage A.Codec.meaning B.Codec.meaning S.Codec.meaning self.now.stages).singles result }
+    {
+        let mut place = None;
+        for single in 0..self.singles {
+            let capability = self.stages.capability(single).unwrap();
+            if !capability.partial_decode {
+                place = Some(single + 1);
+            } else if !capability.partial_read {
+                place = Some(single);
+            }
+        }
+        place
+    }
+
+    // The chain with a form, where every stage takes what comes to it.
+    pub fn fit(self, form: &Form) -> Result<FittedChain<A, B, S>, Fault>
+        ensures { Answers ((chain_stage A.Codec.meaning B.Codec.meaning S.Codec.meaning self.stages).refusal form.now) (λ f. (f.chain ≡ self) × (f.form ≡ form.now)) result }
+    {
+        FittedChain::new(self, form)
+    }
+}

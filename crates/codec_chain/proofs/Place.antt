@@ -1,5 +1,5 @@
 -- The least place that meets the rule, by the definition and by one single after another.
-use Rattle.std.proofs.Common.{◌≡◌, ℕ, suc, ◌+◌, ◌<◌, ◌≤◌, Bool, true, false, cond, not, ◌&&◌, ◌⊎◌, List, [], ◌∷◌, ◌++◌, length, get_or, take, drop, Some, None, Ok, Option, Result, sym, refl, ap, ◌∙◌, subst, ⊎_elim, arith, length-append, zero-add}
+use Rattle.std.proofs.Common.{◌≡◌, ℕ, suc, ◌+◌, ◌<◌, ◌≤◌, Bool, true, false, cond, not, ◌&&◌, List, [], ◌∷◌, ◌++◌, length, get_or, take, drop, Some, None, Ok, Option, Result, sym, refl, ap, ◌∙◌, subst, ⊎_elim, arith, length-append, zero-add}
 use Rattle.std.specs.List.{list_all, range_with_len, position_or_len, slice_get}
 use Rattle.std.proofs.lemmas.Bool.{both_ways, cases_lt, and_parts, and_from, and_left, and_right, not-true, not-false}
 use Rattle.std.proofs.lemmas.List.{drop_all, drop-append-le, take_more, length-take-le}
@@ -10,7 +10,7 @@ use Rattle.std.proofs.lemmas.Option.{get_or_from_slice_get}
 use Rattle.form.specs.declared.fault.Fault.{Fault}
 use Rattle.form.specs.Refusals.{told, or_refused}
 use Rattle.stage.specs.declared.capability.PartialDecoderCapability.{PartialDecoderCapability}
-use Rattle.codec_chain.specs.Place.{all_by_parts, meets, cache_index, Least, Placed}
+use Rattle.codec_chain.specs.Place.{all_by_parts, meets, cache_index, Placed}
 
 -- the two capabilities that the rule asks for
 abbrev decodes : PartialDecoderCapability → Bool

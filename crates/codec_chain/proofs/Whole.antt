@@ -1,9 +1,9 @@
 -- Encoding and decoding whole, from the laws of a stage.
-use Rattle.std.proofs.Common.{◌≡◌, ℕ, zero, suc, ◌+◌, ◌-◌, ◌<◌, ◌≤◌, Bool, true, false, cond, ◌&&◌, leb, eqb, List, length, Some, None, Ok, Option, Result, sym, refl, ap, ◌∙◌, arith}
+use Rattle.std.proofs.Common.{◌≡◌, ℕ, zero, suc, ◌+◌, ◌-◌, ◌<◌, Bool, true, false, ◌&&◌, leb, eqb, List, length, Some, None, Ok, Option, Result, sym, refl, ap, ◌∙◌, arith}
 use Rattle.std.proofs.lemmas.Bool.{eqb-true, eq-eqb, le-leb, and_from, cond-true}
 use Rattle.form.specs.declared.array_form.Form.{Form}
-use Rattle.form.specs.Refusals.{Refusal, unless, only_if}
-use Rattle.stage.specs.Stage.{Bytes, Stage, Laws, first_false, failing, tested, answered, outcome}
+use Rattle.form.specs.Refusals.{Refusal, only_if}
+use Rattle.stage.specs.Stage.{Stage, Laws, first_false, failing, tested, answered}
 use Rattle.stage.specs.Arrays.{array_bytes}
 use Rattle.stage.specs.Calls.{roomy, forward, undo_answer}
 use Rattle.stage.proofs.Refusing.{only_if_ok}
@@ -11,7 +11,7 @@ use Rattle.stage.proofs.Undoing.{placed}
 use Rattle.pair.specs.Composition.{after_laws}
 use Rattle.pair.specs.declared.Pair.{Pair}
 use Rattle.codec_chain.specs.Chain.{chain_stage}
-use Rattle.codec_chain.specs.Whole.{decoded, encode_whole, decode_whole, Returns}
+use Rattle.codec_chain.specs.Whole.{encode_whole, decode_whole, Returns}
 
 -- a chain keeps the laws that its stages keep
 pub chain_laws : {A B S : Type 0} (a : A → Stage Form Form) (b : B → Stage Form ℕ) (s : S → Stage ℕ ℕ)

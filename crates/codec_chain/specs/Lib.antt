@@ -1,3 +1,3 @@
 pub mod Place
-pub mod Chain
 pub mod Whole
+pub mod Chain

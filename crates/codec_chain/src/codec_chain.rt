@@ -1,12 +1,8 @@
 // A chain of codecs: from arrays to arrays, from arrays to bytes, from bytes to bytes.
-ghost use Rattle.std.specs.Prelude.{◌≡◌, ◌^◌, ◌<◌, ◌↔◌, length, IsSome, IfSome, None};
-ghost use Rattle.form.specs.Answers.{Answers};
-ghost use Rattle.codec_chain.specs.Chain.{chain_stage};
+ghost use Rattle.std.specs.Prelude.{◌≡◌, ◌^◌, ◌<◌, ◌↔◌, length, IsSome, IfSome};
+ghost use Rattle.codec_chain.specs.Chain.{chain_stage, InOrder};
 ghost use Rattle.codec_chain.specs.Place.{cache_index, Placed};
 
-use crate::fitted_chain::FittedChain;
-use form::array_form::Form;
-use form::fault::Fault;
 use pair::Pair;
 use stage::array_to_array::ArrayToArrayCodec;
 use stage::array_to_bytes::ArrayToBytesCodec;
@@ -29,8 +25,7 @@ impl<
     A: ArrayToArrayCodec + Drop,
     B: ArrayToBytesCodec + Drop,
     S: Codec<Decoded = usize, Encoded = usize> + Drop,
-> CodecChain<A, B, S>
-{
+> CodecChain<A, B, S> {
     // The chain of the three, if a usize counts its singles.
     pub fn new(
         array_to_array: A,
@@ -77,10 +72,9 @@ impl<
         place
     }
 
-    // The chain with a form, where every stage takes what comes to it.
-    pub fn fit(self, form: &Form) -> Result<FittedChain<A, B, S>, Fault>
-        ensures { Answers ((chain_stage A.Codec.meaning B.Codec.meaning S.Codec.meaning self.stages).refusal form.now) (λ f. (f.chain ≡ self) × (f.form ≡ form.now)) result }
-    {
-        FittedChain::new(self, form)
-    }
+    // The codecs encode in their order, array codecs first, and are undone in the reverse order; the first in encode order that
+    // does not take what comes to it is the one that refuses.
+    pub fn codes_in_order(&self)
+        ensures { InOrder (A.Codec.meaning self.now.stages.inner.inner) (B.Codec.meaning self.now.stages.inner.outer) (S.Codec.meaning self.now.stages.outer) (chain_stage A.Codec.meaning B.Codec.meaning S.Codec.meaning self.now.stages) }
+    {}
 }

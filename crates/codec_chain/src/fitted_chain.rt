@@ -33,20 +33,25 @@ impl<
     A: ArrayToArrayCodec + Drop,
     B: ArrayToBytesCodec + Drop,
     S: Codec<Decoded = usize, Encoded = usize> + Drop,
-> FittedChain<A, B, S>
-{
-    // The chain with the form, or the refusal of the first stage in encode order that does not take what comes to it.
-    pub fn new(chain: CodecChain<A, B, S>, form: &Form) -> Result<FittedChain<A, B, S>, Fault>
-        ensures { Answers ((chain_stage A.Codec.meaning B.Codec.meaning S.Codec.meaning chain.stages).refusal form.now) (λ f. (f.chain ≡ chain) × (f.form ≡ form.now)) result }
+> CodecChain<A, B, S> {
+    // The chain with a form, or the refusal of the first stage in encode order that does not take what comes to it.
+    pub fn fit(self, form: &Form) -> Result<FittedChain<A, B, S>, Fault>
+        ensures { Answers ((chain_stage A.Codec.meaning B.Codec.meaning S.Codec.meaning self.stages).refusal form.now) (λ f. (f.chain ≡ self) × (f.form ≡ form.now)) result }
     {
-        let encoded = chain.stages().size(form, 0)?;
+        let encoded = self.stages().size(form, 0)?;
         Ok(FittedChain {
-            chain,
+            chain: self,
             form: *form,
             encoded,
         })
     }
+}
 
+impl<
+    A: ArrayToArrayCodec + Drop,
+    B: ArrayToBytesCodec + Drop,
+    S: Codec<Decoded = usize, Encoded = usize> + Drop,
+> FittedChain<A, B, S> {
     pub fn chain(&self) -> &CodecChain<A, B, S>
         ensures { result.now ≡ self.now.chain }
     {
@@ -78,21 +83,28 @@ impl<
         ensures answer { told result ≡ encode_whole array_bytes (chain_stage A.Codec.meaning B.Codec.meaning S.Codec.meaning self.now.chain.stages) self.now.form input.now (length output.old) (length work.old) (length scratch.old) }
         ensures bytes { output.new ≡ written result ((chain_stage A.Codec.meaning B.Codec.meaning S.Codec.meaning self.now.chain.stages).encoded self.now.form input.now) output.old }
     {
-        coding::encode(self.chain.stages(), &self.form, input, output, work, scratch)
+        coding::encode(
+            self.chain.stages(),
+            &self.form,
+            input,
+            output,
+            work,
+            scratch,
+        )
     }
 
-    // Decodes the encoded into the front of the output, and answers how many bytes that are: the array's. Where the settings have
+    // Decodes encoded bytes into the front of the output, and answers how many bytes that are: the array's. Where the settings have
     // checks on, the first single in decode order whose test fails is named. What the work buffers hold afterwards is not said.
     pub fn decode(
         &self,
         settings: &Settings,
-        input: &[u8],
+        encoded: &[u8],
         output: &mut [u8],
         work: &mut [u8],
         scratch: &mut [u8],
     ) -> Result<usize, Fault>
-        ensures answer { told result ≡ decode_whole array_bytes (chain_stage A.Codec.meaning B.Codec.meaning S.Codec.meaning self.now.chain.stages) self.now.form settings.now.checks input.now (length output.old) (length work.old) (length scratch.old) }
-        ensures bytes { output.new ≡ written result (decoded (chain_stage A.Codec.meaning B.Codec.meaning S.Codec.meaning self.now.chain.stages) self.now.form input.now) output.old }
+        ensures answer { told result ≡ decode_whole array_bytes (chain_stage A.Codec.meaning B.Codec.meaning S.Codec.meaning self.now.chain.stages) self.now.form settings.now.checks encoded.now (length output.old) (length work.old) (length scratch.old) }
+        ensures bytes { output.new ≡ written result (decoded (chain_stage A.Codec.meaning B.Codec.meaning S.Codec.meaning self.now.chain.stages) self.now.form encoded.now) output.old }
     {
         coding::undo(
             self.chain.stages(),
@@ -100,7 +112,7 @@ impl<
             0,
             self.chain.singles(),
             settings.checks,
-            input,
+            encoded,
             output,
             work,
             scratch,
@@ -110,6 +122,5 @@ impl<
     // What the chain encodes it decodes, to the array that it was.
     pub fn decoding_returns(&self)
         ensures { Returns array_bytes (chain_stage A.Codec.meaning B.Codec.meaning S.Codec.meaning self.now.chain.stages) self.now.form }
-    {
-    }
+    {}
 }

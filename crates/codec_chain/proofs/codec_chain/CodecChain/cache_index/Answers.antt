@@ -1,6 +1,5 @@
-use Rattle.std.proofs.Common.{◌≡◌, List, take, length, refl, subst, sym, arith}
+use Rattle.std.proofs.Common.{◌≡◌, take, subst, arith}
 use Rattle.std.proofs.lemmas.List.{take_all}
-use Rattle.stage.specs.declared.capability.PartialDecoderCapability.{PartialDecoderCapability}
 use Rattle.codec_chain.specs.Chain.{chain_stage}
 use Rattle.codec_chain.specs.Place.{Placed}
 use Rattle.codec_chain.proofs.Place.{past_it, before_it, as_it_was, placed_is}
@@ -14,9 +13,9 @@ loop-single-preserved g c =
     let one = c.unwrap-capability.result in
     let place = c.if-not-capability.place in
     elim c.if-not-capability.branch [
-      then-not-capability w ↦ past_it t.singles k c.loop-single.place c.capability.result one (omega arith) c.loop-single.invariant c.capability.ensures c.unwrap-capability.ensures place w.if-not-capability.true w.place-is
-    | else-not-capability+then-not-capability-2 w ↦ before_it t.singles k c.loop-single.place c.capability.result one (omega arith) c.loop-single.invariant c.capability.ensures c.unwrap-capability.ensures place w.if-not-capability.false w.if-not-capability-2.true w.place-is
-    | else-not-capability+else-not-capability-2 w ↦ as_it_was t.singles k c.loop-single.place c.capability.result one (omega arith) c.loop-single.invariant c.capability.ensures c.unwrap-capability.ensures place w.if-not-capability.false w.if-not-capability-2.false w.place-is
+      | then-not-capability w ↦ past_it t.singles k c.loop-single.place c.capability.result one (omega arith) c.loop-single.invariant c.capability.ensures c.unwrap-capability.ensures place w.if-not-capability.true w.place-is
+      | else-not-capability+then-not-capability-2 w ↦ before_it t.singles k c.loop-single.place c.capability.result one (omega arith) c.loop-single.invariant c.capability.ensures c.unwrap-capability.ensures place w.if-not-capability.false w.if-not-capability-2.true w.place-is
+      | else-not-capability+else-not-capability-2 w ↦ as_it_was t.singles k c.loop-single.place c.capability.result one (omega arith) c.loop-single.invariant c.capability.ensures c.unwrap-capability.ensures place w.if-not-capability.false w.if-not-capability-2.false w.place-is
     ]
 
 pub returns-clause-value : goal.returns-clause-value

@@ -27,6 +27,16 @@ impl<F: Representation + Copy + Drop, B: Codec<Decoded = F, Encoded = F>> Chosen
     }
 }
 
+// By default, the codec that changes nothing is chosen.
+impl<F: Representation + Copy + Drop, B: Codec<Decoded = F, Encoded = F>> Default
+    for Chosen<Empty<F>, B> {
+    ghost is_default = { λ c. c ≡ empty_choice };
+
+    fn default() -> Chosen<Empty<F>, B> {
+        Chosen::empty()
+    }
+}
+
 impl<A: Codec, B: Codec<Decoded = A::Decoded, Encoded = A::Encoded>> Codec for Chosen<A, B> {
     type Decoded = A::Decoded;
 

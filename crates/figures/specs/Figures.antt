@@ -1,8 +1,15 @@
 -- Worked figures, beside what the definitions give.
-use Rattle.std.specs.Prelude.{◌≡◌, ℕ, List, [], ◌∷◌, Some, None, Option, refl}
+use Rattle.std.specs.Prelude.{◌≡◌, ℕ, true, false, List, [], ◌∷◌, Some, None, Option, refl}
 use Rattle.form.specs.declared.array_form.Form.{Form}
 use Rattle.form.specs.declared.data_type.DataType.TheVariants.{UInt8, UInt16, Float32}
 use Rattle.form.specs.Forms.{form_refusal}
+use Rattle.stage.specs.declared.capability.PartialDecoderCapability.{PartialDecoderCapability}
+use Rattle.stage.specs.Arrays.{array_bytes}
+use Rattle.stage.specs.Single.{single, whole_only, by_parts}
+use Rattle.stage.specs.Stage.{Stage}
+use Rattle.pair.specs.Compose.{after}
+use Rattle.codec_chain.specs.Place.{cache_index}
+use Rattle.codec_chain.specs.Whole.{decoded}
 use Rattle.shuffle.specs.Shuffle.{shuffling}
 use Rattle.fletcher32.specs.Fletcher32.{fletcher32, checksumming}
 use Rattle.transpose.specs.Transpose.{transposing}
@@ -47,8 +54,25 @@ transposed = 1 ∷ 0 ∷ 4 ∷ 0 ∷ 2 ∷ 0 ∷ 5 ∷ 0 ∷ 3 ∷ 0 ∷ 6 ∷ 0
 abbrev most_significant_first : List ℕ
 most_significant_first = 0 ∷ 1 ∷ 0 ∷ 4 ∷ 0 ∷ 2 ∷ 0 ∷ 5 ∷ 0 ∷ 3 ∷ 0 ∷ 6 ∷ []
 
+-- a transposition, big and fletcher32 as a chain, and what it stores
+abbrev transposed_chain : Stage Form ℕ
+transposed_chain =
+    after (single (λ n. n) (λ n. n) checksumming)
+    (after (single array_bytes (λ n. n) (byte_ordering (Some Big))) (single array_bytes array_bytes (transposing swapped_axes 2)))
+
+abbrev stored : List ℕ
+stored = 0x00 ∷ 0x01 ∷ 0x00 ∷ 0x04 ∷ 0x00 ∷ 0x02 ∷ 0x00 ∷ 0x05 ∷ 0x00 ∷ 0x03 ∷ 0x00 ∷ 0x06 ∷ 0x15 ∷ 0x00 ∷ 0x3D ∷ 0x00 ∷ []
+
+-- the differences and the bytes codec
+abbrev difference_chain : Stage Form ℕ
+difference_chain = after (single array_bytes (λ n. n) (byte_ordering (Some Big))) (single array_bytes array_bytes differencing)
+
+-- a single that decodes a part, of all that it reads
+abbrev of_whole_input : PartialDecoderCapability
+of_whole_input = record { partial_read = false; partial_decode = true }
+
 -- checksums of no bytes, of two words, of a word of ones and of three bytes; a stored checksum, and the length with one; a shuffle
--- by 2 and back; differences of integers, back, and of floats; a transposition, back, and its lengths; big, and back
+-- by 2 and back; differences of integers, back, and of floats; a transposition, back, and its lengths; big, and back; a chain, and back
 abbrev computed : List (List ℕ)
 computed =
     (fletcher32 [] ∷ fletcher32 two_words ∷ fletcher32 (0xFF ∷ 0xFF ∷ []) ∷ fletcher32 (0x01 ∷ 0x00 ∷ 0x02 ∷ []) ∷ [])
@@ -64,6 +88,8 @@ computed =
     ∷ ((transposing swapped_axes 2).coded two_by_three).lengths
     ∷ (byte_ordering (Some Big)).encoded two_by_three transposed
     ∷ (byte_ordering (Some Big)).decoded two_by_three most_significant_first
+    ∷ transposed_chain.encoded two_by_three by_rows
+    ∷ decoded transposed_chain two_by_three stored
     ∷ []
 
 abbrev worked : List (List ℕ)
@@ -81,7 +107,21 @@ worked =
     ∷ (3 ∷ 2 ∷ 1 ∷ 1 ∷ [])
     ∷ most_significant_first
     ∷ transposed
+    ∷ stored
+    ∷ by_rows
     ∷ []
+
+-- where the two chains and some singles keep what they decode; not where every single has both capabilities
+abbrev places : List (Option ℕ)
+places =
+    cache_index transposed_chain.singles
+    ∷ cache_index (whole_only ∷ by_parts ∷ of_whole_input ∷ by_parts ∷ [])
+    ∷ cache_index difference_chain.singles
+    ∷ cache_index (by_parts ∷ by_parts ∷ [])
+    ∷ []
+
+abbrev kept : List (Option ℕ)
+kept = Some 1 ∷ Some 2 ∷ Some 2 ∷ None ∷ []
 
 -- what 4,096 elements of uint8 and one more are refused with, and 4,092 bytes under fletcher32 and one more
 abbrev refusals : List (Option ℕ)
@@ -96,4 +136,4 @@ abbrev refused : List (Option ℕ)
 refused = None ∷ Some 3 ∷ None ∷ Some 12 ∷ []
 
 abbrev pub Figures : Type 0
-Figures = (computed ≡ worked) × (refusals ≡ refused)
+Figures = (computed ≡ worked) × (refusals ≡ refused) × (places ≡ kept)

@@ -1,0 +1,7 @@
+use Rattle.std.proofs.Common.{refl}
+use Rattle.chain_draft.proofs.Adding.{added}
+use Rattle.chain_draft.proofs.ChainDraft.shuffle.Goals as goal
+
+pub returns-clause-answer : goal.returns-clause-answer
+returns-clause-answer c =
+    added _ _ _ _ _ c.in_ok-codec.codec c.in_ok-byte_room.ensures c.in_ok-codec.ensures.answer (λ m. ((c.shuffle.result, (c.in_ok-codec.codec, m, c.shuffle.ensures.value), c.push.ensures.items), refl, refl))

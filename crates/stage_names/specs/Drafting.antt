@@ -1,0 +1,33 @@
+-- Stages that are added to a draft of a chain.
+use Rattle.std.specs.Prelude.{◌≡◌, ℕ, List, [], ◌∷◌, Some, None, Ok, Option, Result, MatchOption}
+use Rattle.form.specs.declared.fault.Fault.{Fault}
+use Rattle.form.specs.Answers.{Answers}
+use Rattle.transpose.specs.Transpose.{order_refusal}
+use Rattle.shuffle.specs.Shuffle.{size_refusal}
+use Rattle.chain_draft.specs.declared.ChainDraft.{ChainDraft}
+use Rattle.chain_draft.specs.Draft.{array_refusal, bytes_refusal, byte_refusal, IsTranspose, IsDifference, IsShuffle, IsFletcher32, ArrayCodecAdded, BytesCodecAdded, ByteCodecAdded}
+use Rattle.stage_names.specs.Names.{SaidStage, SaidTranspose, SaidDifference, SaidBytes, SaidShuffle, SaidFletcher32}
+
+-- why a stage is not added
+abbrev pub add_refusal : ChainDraft → SaidStage → Option ℕ
+add_refusal draft (SaidTranspose order) = array_refusal draft (order_refusal order)
+add_refusal draft SaidDifference = array_refusal draft None
+add_refusal draft (SaidBytes endian) = bytes_refusal draft
+add_refusal draft (SaidShuffle size) = byte_refusal draft (size_refusal size)
+add_refusal draft SaidFletcher32 = byte_refusal draft None
+
+-- what is added
+abbrev pub Added : SaidStage → ChainDraft → ChainDraft → Type 0
+Added (SaidTranspose order) old new = ArrayCodecAdded (IsTranspose order) old new
+Added SaidDifference old new = ArrayCodecAdded IsDifference old new
+Added (SaidBytes endian) old new = BytesCodecAdded endian old new
+Added (SaidShuffle size) old new = ByteCodecAdded (IsShuffle size) old new
+Added SaidFletcher32 old new = ByteCodecAdded IsFletcher32 old new
+
+-- stages are added one by one; at the first that is refused the draft stays as it is then
+abbrev pub AddedAll : ChainDraft → List SaidStage → ChainDraft → Result (Unit {0}) Fault → Type 0
+AddedAll old [] new r = (r ≡ Ok tt) × (new ≡ old)
+AddedAll old (stage ∷ stages) new r =
+    MatchOption (add_refusal old stage)
+    ((next : ChainDraft) × Added stage old next × AddedAll next stages new r)
+    (λ n. Answers (Some n) (λ _. ⊥) r × (new ≡ old))

@@ -9,6 +9,7 @@ use Rattle.form.specs.Answers.{checked}
 use Rattle.stage.specs.Stage.{Stage, Laws}
 use Rattle.pair.specs.Compose.{after}
 use Rattle.base_codecs.specs.Empty.{empty_stage}
+use Rattle.codec_chain.proofs.Order.{or_twice}
 use Rattle.chain_draft.specs.Seal.{coded_by, encoded_by, refused_by, singles_of}
 
 pub or_none : (o : Option ℕ) → option_or o None ≡ o
@@ -18,10 +19,6 @@ or_none (Some n) = refl
 pub or_same : (o a b : Option ℕ) → (o ≡ None → a ≡ b) → option_or o a ≡ option_or o b
 or_same None a b h = h refl
 or_same (Some n) a b h = refl
-
-pub or_twice : (u v w : Option ℕ) → option_or (option_or u v) w ≡ option_or u (option_or v w)
-or_twice None v w = refl
-or_twice (Some n) v w = refl
 
 module _ {C F : Type 0} (m : C → Stage F F) where
   -- one list after another

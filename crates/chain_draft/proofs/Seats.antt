@@ -14,12 +14,10 @@ use Rattle.array_codecs.specs.Chosen.{ArrayCodec, chosen_array}
 use Rattle.byte_codecs.specs.Chosen.{ByteCodec, chosen_stage}
 use Rattle.bytes_codec.specs.declared.bytes_codec.BytesCodec.{BytesCodec}
 use Rattle.bytes_codec.specs.ByteOrder.{byte_ordering}
-use Rattle.chain_draft.specs.Stages.{byte_codec_laws, two_laws}
+use Rattle.chain_draft.specs.Laws.{bytes, byte_codec_laws, two_laws}
 use Rattle.chain_draft.specs.Seal.{coded_by, refused_by, singles_of, CodesBy}
-use Rattle.chain_draft.proofs.Runs.{or_twice, Runs, Bounded, bounded, runs_none, runs_one, runs_after}
-
-abbrev bytes : ℕ → ℕ
-bytes n = n
+use Rattle.codec_chain.proofs.Order.{or_twice}
+use Rattle.chain_draft.proofs.Runs.{Runs, Bounded, bounded, runs_none, runs_one, runs_after}
 
 abbrev array_seat : List ArrayCodec → ℕ → Stage Form Form
 array_seat cs k = chosen_array (get_or cs k empty_choice)

@@ -1,3 +1,3 @@
 pub mod Draft
-pub mod Stages
+pub mod Laws
 pub mod Seal

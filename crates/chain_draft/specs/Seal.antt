@@ -15,7 +15,6 @@ use Rattle.array_codecs.specs.Chosen.{ArrayCodec, chosen_array}
 use Rattle.byte_codecs.specs.Chosen.{ByteCodec, chosen_stage}
 use Rattle.bytes_codec.specs.declared.bytes_codec.BytesCodec.{BytesCodec}
 use Rattle.bytes_codec.specs.ByteOrder.{byte_ordering}
-use Rattle.chain_draft.specs.Stages.{in_seats}
 use Rattle.chain_draft.specs.declared.ChainDraft.{ChainDraft}
 use Rattle.chain_draft.specs.declared.byte_stages.ByteStages.{ByteStages}
 
@@ -30,7 +29,13 @@ ArrayStages = Pair ArrayCodec ArrayCodec
 abbrev pub array_stages : List ArrayCodec → ArrayStages
 array_stages codecs = record { outer = get_or codecs 1 empty_choice; inner = get_or codecs 0 empty_choice }
 
--- the same of byte codecs
+-- the same of the four seats of byte codecs
+abbrev pub in_seats : List ByteCodec → Pair (Pair ByteCodec ByteCodec) (Pair ByteCodec ByteCodec)
+in_seats codecs = record {
+  outer = record { outer = get_or codecs 3 empty_choice; inner = get_or codecs 2 empty_choice };
+  inner = record { outer = get_or codecs 1 empty_choice; inner = get_or codecs 0 empty_choice };
+}
+
 abbrev pub byte_stages : List ByteCodec → ByteStages
 byte_stages codecs = record { seats = in_seats codecs }
 

@@ -1,6 +1,7 @@
 // Four byte codecs in their seats, as one codec.
 ghost use Rattle.std.specs.Prelude.{◌≡◌};
-ghost use Rattle.chain_draft.specs.Stages.{byte_stages_mean, byte_stages_laws, in_seats};
+ghost use Rattle.chain_draft.specs.Laws.{four_laws};
+ghost use Rattle.chain_draft.specs.Seal.{in_seats};
 
 use byte_codecs::byte_codec::ByteCodec;
 use form::fault::Fault;
@@ -32,9 +33,9 @@ impl Codec for ByteStages {
 
     type Encoded = usize;
 
-    ghost meaning = { byte_stages_mean };
+    ghost meaning = { λ s. ⟦<Pair<Pair<ByteCodec, ByteCodec>, Pair<ByteCodec, ByteCodec>> as Codec>⟧.meaning s.seats };
 
-    ghost lawful = { byte_stages_laws };
+    ghost lawful = { λ s. four_laws s.seats };
 
     fn singles(&self) -> Option<usize> {
         self.seats.singles()

@@ -82,7 +82,7 @@ impl ChainDraft {
     }
 
     // Adds a transposition by an order of the axes.
-    pub fn transpose(&mut self, order: &[usize]) -> Result<(), Fault>
+    pub fn add_transpose(&mut self, order: &[usize]) -> Result<(), Fault>
         ensures answer { Answers (array_refusal self.old (order_refusal order.now)) (λ _. ArrayCodecAdded (IsTranspose order.now) self.old self.new) result }
         ensures same { OnErr result (self.new ≡ self.old) }
     {
@@ -93,7 +93,7 @@ impl ChainDraft {
     }
 
     // Adds the differences.
-    pub fn difference(&mut self) -> Result<(), Fault>
+    pub fn add_difference(&mut self) -> Result<(), Fault>
         ensures answer { Answers (array_refusal self.old None) (λ _. ArrayCodecAdded IsDifference self.old self.new) result }
         ensures same { OnErr result (self.new ≡ self.old) }
     {
@@ -104,7 +104,7 @@ impl ChainDraft {
     }
 
     // Adds the bytes codec, by a byte order.
-    pub fn bytes(&mut self, endian: Option<Endianness>) -> Result<(), Fault>
+    pub fn set_bytes(&mut self, endian: Option<Endianness>) -> Result<(), Fault>
         ensures answer { Answers (bytes_refusal self.old) (λ _. BytesCodecAdded endian self.old self.new) result }
         ensures same { OnErr result (self.new ≡ self.old) }
     {
@@ -114,7 +114,7 @@ impl ChainDraft {
     }
 
     // Adds a shuffle of elements of so many bytes.
-    pub fn shuffle(&mut self, elementsize: usize) -> Result<(), Fault>
+    pub fn add_shuffle(&mut self, elementsize: usize) -> Result<(), Fault>
         ensures answer { Answers (byte_refusal self.old (size_refusal elementsize)) (λ _. ByteCodecAdded (IsShuffle elementsize) self.old self.new) result }
         ensures same { OnErr result (self.new ≡ self.old) }
     {
@@ -125,7 +125,7 @@ impl ChainDraft {
     }
 
     // Adds a checksum.
-    pub fn fletcher32(&mut self) -> Result<(), Fault>
+    pub fn add_fletcher32(&mut self) -> Result<(), Fault>
         ensures answer { Answers (byte_refusal self.old None) (λ _. ByteCodecAdded IsFletcher32 self.old self.new) result }
         ensures same { OnErr result (self.new ≡ self.old) }
     {

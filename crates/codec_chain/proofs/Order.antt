@@ -24,15 +24,15 @@ module _ {F G H : Type 0} (bF : F → ℕ) (bG : G → ℕ) (bH : H → ℕ) (o 
       both_across bF bG bH o i lo li f r 0 (length (o.singles ++ i.singles)) x (omega arith) (omega arith) (omega arith) e
       ∙ ap (λ k. i.undone f 0 k (decoded o (i.coded f) x)) d
 
-first_of : (u v w : Option ℕ) → option_or (option_or u v) w ≡ option_or u (option_or v w)
-first_of None v w = refl
-first_of (Some n) v w = refl
+pub or_twice : (u v w : Option ℕ) → option_or (option_or u v) w ≡ option_or u (option_or v w)
+or_twice None v w = refl
+or_twice (Some n) v w = refl
 
 pub in_order : (a : Stage Form Form) (b : Stage Form ℕ) (s : Stage ℕ ℕ) → Laws array_bytes array_bytes a → Laws array_bytes (λ n. n) b → Laws (λ n. n) (λ n. n) s → InOrder a b s (after s (after b a))
 in_order a b s la lb ls =
     let lab = after_laws array_bytes array_bytes (λ n. n) b a lb la in record {
       singles = refl;
-      refuses = λ f. first_of (a.refusal f) (b.refusal (a.coded f)) (s.refusal (b.coded (a.coded f)));
+      refuses = λ f. or_twice (a.refusal f) (b.refusal (a.coded f)) (s.refusal (b.coded (a.coded f)));
       encodes = λ f x. refl;
       decodes = λ f x r e.
           pair_decoded array_bytes (λ n. n) (λ n. n) s (after b a) ls lab f r x e

@@ -1,17 +1,16 @@
 -- Encoding and decoding whole, from the laws of a stage.
-use Rattle.std.proofs.Common.{◌≡◌, ℕ, zero, suc, ◌+◌, ◌-◌, ◌<◌, Bool, true, false, ◌&&◌, leb, eqb, List, length, Some, None, Ok, Option, Result, sym, refl, ap, ◌∙◌, arith}
-use Rattle.std.proofs.lemmas.Bool.{eqb-true, eq-eqb, le-leb, and_from, cond-true}
+use Rattle.std.proofs.Common.{◌≡◌, ℕ, zero, suc, ◌+◌, ◌-◌, ◌<◌, Bool, true, false, ◌&&◌, leb, eqb, List, length, Some, None, Ok, Option, Result, refl, ap, ◌∙◌, arith}
+use Rattle.std.proofs.lemmas.Bool.{eq-eqb, le-leb, and_from, cond-true}
 use Rattle.form.specs.declared.array_form.Form.{Form}
 use Rattle.form.specs.Refusals.{Refusal, only_if}
 use Rattle.stage.specs.Stage.{Stage, Laws, first_false, failing, tested, answered}
 use Rattle.stage.specs.Arrays.{array_bytes}
 use Rattle.stage.specs.Calls.{roomy, forward, undo_answer}
-use Rattle.stage.proofs.Refusing.{only_if_ok}
 use Rattle.stage.proofs.Undoing.{placed}
 use Rattle.pair.specs.Composition.{after_laws}
 use Rattle.pair.specs.declared.Pair.{Pair}
 use Rattle.codec_chain.specs.Chain.{chain_stage}
-use Rattle.codec_chain.specs.Whole.{encode_whole, decode_whole, Returns}
+use Rattle.codec_chain.specs.Whole.{decode_whole, Returns}
 
 -- a chain keeps the laws that its stages keep
 pub chain_laws : {A B S : Type 0} (a : A → Stage Form Form) (b : B → Stage Form ℕ) (s : S → Stage ℕ ℕ)
@@ -38,27 +37,17 @@ module _ {F G : Type 0} (bF : F → ℕ) (bG : G → ℕ) (t : Stage F G) (l : L
       let all : t.size f (length t.singles) ≡ bF f = l.last f r in
       ap (λ n. undo_answer bF t f 0 n checks input out work scratch) e ∙ rw (r, there, all)
 
-  -- what an answer to encoding says of the input and of the count
-  answered_encode : (x : List ℕ) (n out work scratch : ℕ) → encode_whole bF t f x out work scratch ≡ Ok n → (length x ≡ bF f) × (t.size f 0 ≡ n)
-  answered_encode x n out work scratch e =
-      let p = only_if_ok (eqb (length x) (bF f)) 13 (only_if (leb (t.size f 0) out && roomy work scratch) 14 (Ok (t.size f 0))) n (sym e) in
-      let q = only_if_ok (leb (t.size f 0) out && roomy work scratch) 14 (Ok (t.size f 0)) n p.1 in
-      (eqb-true _ _ p.0, cc (q.1))
-
   pub returns : Returns bF t f
   returns = record {
-    counted = λ x n out work scratch e.
-        let p = answered_encode x n out work scratch e in
-        l.encoded_size f x r p.0 ∙ p.1;
-    answers = λ x n out work scratch e y checks out' work' scratch' ho hw hs.
-        let p = answered_encode x n out work scratch e in
+    counted = λ x e. l.encoded_size f x r e;
+    answers = λ x e y checks out work scratch ho hw hs.
         let m : ℕ = length t.singles in
         let rest : Result ℕ Refusal = answered (tested checks (failing t f 0 m (t.encoded f x))) (bF f) in
-        let w : failing t f 0 m (t.encoded f x) ≡ None = none_fails _ 0 (m - 0) (λ k h. l.passing f k x r (omega arith) p.0 y) in
-        let size : eqb (length (t.encoded f x)) (t.size f 0) ≡ true = eq-eqb _ _ (l.encoded_size f x r p.0) in
-        let room : (leb (bF f) out' && roomy work' scratch') ≡ true = and_from _ _ (le-leb _ _ ho) (and_from _ _ (le-leb _ _ hw) (le-leb _ _ hs)) in
-        ap (λ v. only_if v 13 (only_if (leb (bF f) out' && roomy work' scratch') 14 rest)) size
+        let w : failing t f 0 m (t.encoded f x) ≡ None = none_fails _ 0 (m - 0) (λ k h. l.passing f k x r (omega arith) e y) in
+        let size : eqb (length (t.encoded f x)) (t.size f 0) ≡ true = eq-eqb _ _ (l.encoded_size f x r e) in
+        let room : (leb (bF f) out && roomy work scratch) ≡ true = and_from _ _ (le-leb _ _ ho) (and_from _ _ (le-leb _ _ hw) (le-leb _ _ hs)) in
+        ap (λ v. only_if v 13 (only_if (leb (bF f) out && roomy work scratch) 14 rest)) size
         ∙ ap (λ v. only_if v 14 rest) room
         ∙ untested checks _ (bF f) w;
-    same = λ x n out work scratch e y. l.whole f x r (answered_encode x n out work scratch e).0 y;
+    same = λ x e y. l.whole f x r e y;
   }

@@ -11,7 +11,8 @@ all_by_parts singles = list_all (λ c. c.partial_read && c.partial_decode) singl
 abbrev pub meets : List PartialDecoderCapability → ℕ → Bool
 meets singles i = list_all (λ c. c.partial_decode) (drop i singles) && list_all (λ c. c.partial_read) (drop (suc i) singles)
 
--- no place where every single has both; else the first that meets the rule, as the last place always does
+-- no place where every single has both, and else the first that meets the rule; where none before it does it is the last place,
+-- past which there is no single to ask anything of
 abbrev pub cache_index : List PartialDecoderCapability → Option ℕ
 cache_index singles =
     cond (all_by_parts singles) None (Some (position_or_len (meets singles) (range_with_len 0 (length singles))))

@@ -22,10 +22,10 @@ module _ {F G : Type 0} (bF : F → ℕ) (t : Stage F G) (f : F) where
       (only_if (nat_le (bF f) out && roomy work scratch) 14
       (answered (tested checks (failing t f 0 (length t.singles) input)) (bF f)))
 
-  -- wherever encoding answers, its bytes are decoded to what was encoded, with checks on or off, wherever there is room
+  -- an array of the form is encoded to so many bytes as there are at place 0, and these are decoded to the array, with checks on or
+  -- off, wherever there is room
   pub record Returns : Type 0 where
-    pub counted : (x : List ℕ) (n out work scratch : ℕ) → encode_whole x out work scratch ≡ Ok n → length (t.encoded f x) ≡ n
-    pub answers : (x : List ℕ) (n out work scratch : ℕ) → encode_whole x out work scratch ≡ Ok n → Bytes x
-        → (checks : Bool) (out' work' scratch' : ℕ) → bF f ≤ out' → 4096 ≤ work' → 4096 ≤ scratch'
-        → decode_whole checks (t.encoded f x) out' work' scratch' ≡ Ok (bF f)
-    pub same : (x : List ℕ) (n out work scratch : ℕ) → encode_whole x out work scratch ≡ Ok n → Bytes x → decoded t f (t.encoded f x) ≡ x
+    pub counted : (x : List ℕ) → length x ≡ bF f → length (t.encoded f x) ≡ t.size f 0
+    pub answers : (x : List ℕ) → length x ≡ bF f → Bytes x → (checks : Bool) (out work scratch : ℕ) → bF f ≤ out → 4096 ≤ work → 4096 ≤ scratch
+        → decode_whole checks (t.encoded f x) out work scratch ≡ Ok (bF f)
+    pub same : (x : List ℕ) → length x ≡ bF f → Bytes x → decoded t f (t.encoded f x) ≡ x

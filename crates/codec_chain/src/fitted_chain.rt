@@ -64,7 +64,7 @@ impl<
         &self.form
     }
 
-    // How many bytes the encoded has.
+    // How many bytes the encoded has: zarrs' encoded_representation.
     pub fn encoded_len(&self) -> usize
         ensures { result ≡ (chain_stage A.Codec.meaning B.Codec.meaning S.Codec.meaning self.now.chain.stages).size self.now.form 0 }
     {

@@ -1,15 +1,16 @@
 -- Worked figures, beside what the definitions give.
-use Rattle.std.specs.Prelude.{◌≡◌, ℕ, true, false, List, [], ◌∷◌, Some, None, Option, refl}
+use Rattle.std.specs.Prelude.{◌≡◌, ℕ, true, false, List, [], ◌∷◌, Some, None, Ok, Err, Option, Result, refl}
 use Rattle.form.specs.declared.array_form.Form.{Form}
 use Rattle.form.specs.declared.data_type.DataType.TheVariants.{UInt8, UInt16, Float32}
 use Rattle.form.specs.Forms.{form_refusal}
+use Rattle.form.specs.Refusals.{Refusal, failed}
 use Rattle.stage.specs.declared.capability.PartialDecoderCapability.{PartialDecoderCapability}
 use Rattle.stage.specs.Arrays.{array_bytes}
 use Rattle.stage.specs.Single.{single, whole_only, by_parts}
 use Rattle.stage.specs.Stage.{Stage}
 use Rattle.pair.specs.Compose.{after}
 use Rattle.codec_chain.specs.Place.{cache_index}
-use Rattle.codec_chain.specs.Whole.{decoded}
+use Rattle.codec_chain.specs.Whole.{decoded, decode_whole}
 use Rattle.shuffle.specs.Shuffle.{shuffling}
 use Rattle.fletcher32.specs.Fletcher32.{fletcher32, checksumming}
 use Rattle.transpose.specs.Transpose.{transposing}
@@ -62,6 +63,10 @@ transposed_chain =
 
 abbrev stored : List ℕ
 stored = 0x00 ∷ 0x01 ∷ 0x00 ∷ 0x04 ∷ 0x00 ∷ 0x02 ∷ 0x00 ∷ 0x05 ∷ 0x00 ∷ 0x03 ∷ 0x00 ∷ 0x06 ∷ 0x15 ∷ 0x00 ∷ 0x3D ∷ 0x00 ∷ []
+
+-- the same with a byte damaged
+abbrev damaged : List ℕ
+damaged = 0x00 ∷ 0x01 ∷ 0x00 ∷ 0x04 ∷ 0x00 ∷ 0x02 ∷ 0x00 ∷ 0x05 ∷ 0x00 ∷ 0x03 ∷ 0x00 ∷ 0x07 ∷ 0x15 ∷ 0x00 ∷ 0x3D ∷ 0x00 ∷ []
 
 -- the differences and the bytes codec
 abbrev difference_chain : Stage Form ℕ
@@ -123,6 +128,17 @@ places =
 abbrev kept : List (Option ℕ)
 kept = Some 1 ∷ Some 2 ∷ Some 2 ∷ None ∷ []
 
+-- what decoding the chain's bytes answers with checks on, and the damaged ones with checks on and off
+abbrev answers : List (Result ℕ Refusal)
+answers =
+    decode_whole array_bytes transposed_chain two_by_three true stored 4096 4096 4096
+    ∷ decode_whole array_bytes transposed_chain two_by_three true damaged 4096 4096 4096
+    ∷ decode_whole array_bytes transposed_chain two_by_three false damaged 4096 4096 4096
+    ∷ []
+
+abbrev given : List (Result ℕ Refusal)
+given = Ok 12 ∷ Err (failed 0) ∷ Ok 12 ∷ []
+
 -- what 4,096 elements of uint8 and one more are refused with, and 4,092 bytes under fletcher32 and one more
 abbrev refusals : List (Option ℕ)
 refusals =
@@ -136,4 +152,4 @@ abbrev refused : List (Option ℕ)
 refused = None ∷ Some 3 ∷ None ∷ Some 12 ∷ []
 
 abbrev pub Figures : Type 0
-Figures = (computed ≡ worked) × (refusals ≡ refused) × (places ≡ kept)
+Figures = (computed ≡ worked) × (refusals ≡ refused) × (places ≡ kept) × (answers ≡ given)

@@ -10,20 +10,20 @@ use Rattle.stage_names.specs.declared.name.StageName.{StageName}
 use Rattle.stage_names.specs.Names.{said_stage}
 use Rattle.stage_names.specs.Drafting.{add_refusal, AddedAll}
 
-stopped_by : (o : Option ℕ) (A : Type 0) (P : Unit {0} → Type 0) (old new : ChainDraft) (e : Fault) → Answers o P (Err e) → new ≡ old → MatchOption o A (λ n. Answers (Some n) (λ (_ : Unit {0}). ⊥) (Err e) × (new ≡ old))
-stopped_by None A P old new e a s = absurd a
-stopped_by (Some n) A P old new e a s = (a, s)
+stopped_by : (o : Option ℕ) (A : Type 0) (P : Unit {0} → Type 0) (e : Fault) → Answers o P (Err e) → MatchOption o A (λ n. Answers {X = ChainDraft} (Some n) (λ _. ⊥) (Err e))
+stopped_by None A P e a = absurd a
+stopped_by (Some n) A P e a = a
 
-is_err : (r : Result (Unit {0}) Fault) (e : Fault) → IsErrAnd r (λ d. d ≡ e) → r ≡ Err e
+is_err : (r : Result ChainDraft Fault) (e : Fault) → IsErrAnd r (λ d. d ≡ e) → r ≡ Err e
 is_err (Ok x) e h = absurd h
 is_err (Err d) e h = ap Err h
 
 -- a stage that is refused is the last that is tried
-pub stopped : (names : List StageName) (i : ℕ) (name d : StageName) (old new : ChainDraft) (P : Unit {0} → Type 0) (e : Fault) (r : Result (Unit {0}) Fault)
-    → i < length names → name ≡ get_or names i d → Answers (add_refusal old (said_stage name)) P (Err e) → new ≡ old → IsErrAnd r (λ d. d ≡ e)
-    → AddedAll old (map said_stage (drop i names)) new r
-stopped names i name d old new P e r h n a s k =
-    subst (λ xs. AddedAll old (map said_stage xs) new r) (sym (drop-cons names i d h))
-    (subst (λ m. AddedAll old (said_stage m ∷ map said_stage (drop (suc i) names)) new r) n
-    (subst (AddedAll old (said_stage name ∷ map said_stage (drop (suc i) names)) new) (sym (is_err r e k))
-    (stopped_by (add_refusal old (said_stage name)) _ P old new e a s)))
+pub stopped : (names : List StageName) (i : ℕ) (name d : StageName) (draft : ChainDraft) (P : Unit {0} → Type 0) (e : Fault) (r : Result ChainDraft Fault)
+    → i < length names → name ≡ get_or names i d → Answers (add_refusal draft (said_stage name)) P (Err e) → IsErrAnd r (λ d. d ≡ e)
+    → AddedAll draft (map said_stage (drop i names)) r
+stopped names i name d draft P e r h n a k =
+    subst (λ xs. AddedAll draft (map said_stage xs) r) (sym (drop-cons names i d h))
+    (subst (λ m. AddedAll draft (said_stage m ∷ map said_stage (drop (suc i) names)) r) n
+    (subst (AddedAll draft (said_stage name ∷ map said_stage (drop (suc i) names))) (sym (is_err r e k))
+    (stopped_by (add_refusal draft (said_stage name)) _ P e a)))

@@ -24,10 +24,10 @@ Added (SaidBytes endian) old new = BytesCodecAdded endian old new
 Added (SaidShuffle size) old new = ByteCodecAdded (IsShuffle size) old new
 Added SaidFletcher32 old new = ByteCodecAdded IsFletcher32 old new
 
--- stages are added one by one; at the first that is refused the draft stays as it is then
-abbrev pub AddedAll : ChainDraft → List SaidStage → ChainDraft → Result (Unit {0}) Fault → Type 0
-AddedAll old [] new r = (r ≡ Ok tt) × (new ≡ old)
-AddedAll old (stage ∷ stages) new r =
-    MatchOption (add_refusal old stage)
-    ((next : ChainDraft) × Added stage old next × AddedAll next stages new r)
-    (λ n. Answers (Some n) (λ _. ⊥) r × (new ≡ old))
+-- stages are added one by one, up to the first that is refused
+abbrev pub AddedAll : ChainDraft → List SaidStage → Result ChainDraft Fault → Type 0
+AddedAll draft [] r = r ≡ Ok draft
+AddedAll draft (stage ∷ stages) r =
+    MatchOption (add_refusal draft stage)
+    ((next : ChainDraft) × Added stage draft next × AddedAll next stages r)
+    (λ n. Answers (Some n) (λ _. ⊥) r)

@@ -14,8 +14,8 @@ impl ArrayName {
         ensures same { OnErr result (draft.new ≡ draft.old) }
     {
         match self {
-            ArrayName::Transpose(order) => draft.transpose(order.as_slice()),
-            ArrayName::Difference => draft.difference(),
+            ArrayName::Transpose(order) => draft.add_transpose(order.as_slice()),
+            ArrayName::Difference => draft.add_difference(),
         }
     }
 }
@@ -26,8 +26,8 @@ impl ByteName {
         ensures same { OnErr result (draft.new ≡ draft.old) }
     {
         match self {
-            ByteName::Shuffle(size) => draft.shuffle(*size),
-            ByteName::Fletcher32 => draft.fletcher32(),
+            ByteName::Shuffle(size) => draft.add_shuffle(*size),
+            ByteName::Fletcher32 => draft.add_fletcher32(),
         }
     }
 }
@@ -40,18 +40,19 @@ impl StageName {
     {
         match self {
             StageName::ArrayToArray(name) => name.add_to(draft),
-            StageName::ArrayToBytes(endian) => draft.bytes(*endian),
+            StageName::ArrayToBytes(endian) => draft.set_bytes(*endian),
             StageName::BytesToBytes(name) => name.add_to(draft),
         }
     }
 }
 
-// Adds stages one by one, up to the first that is refused.
-pub fn add_stages(draft: &mut ChainDraft, names: &[StageName]) -> Result<(), Fault>
-    ensures { AddedAll draft.old (map said_stage names.now) draft.new result }
+// The draft with stages added one by one, or the first refusal.
+pub fn add_stages(draft: ChainDraft, names: &[StageName]) -> Result<ChainDraft, Fault>
+    ensures { AddedAll draft (map said_stage names.now) result }
 {
+    let mut draft = draft;
     for name in names {
-        name.add_to(draft)?;
+        name.add_to(&mut draft)?;
     }
-    Ok(())
+    Ok(draft)
 }

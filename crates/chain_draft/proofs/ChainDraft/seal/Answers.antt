@@ -10,7 +10,7 @@ use Rattle.array_codecs.specs.Chosen.{ArrayCodec, chosen_array}
 use Rattle.bytes_codec.specs.declared.bytes_codec.BytesCodec.{BytesCodec}
 use Rattle.bytes_codec.specs.ByteOrder.{byte_ordering}
 use Rattle.chain_draft.specs.declared.byte_stages.ByteStages.{ByteStages}
-use Rattle.chain_draft.specs.Stages.{byte_stages_mean}
+use Rattle.byte_codecs.specs.Chosen.{chosen_stage}
 use Rattle.codec_chain.specs.Chain.{chain_stage}
 use Rattle.chain_draft.specs.Seal.{byte_stages, chain_stages, CodesBy}
 use Rattle.chain_draft.proofs.Seats.{codes_by, few_singles, sealed_by}
@@ -19,7 +19,7 @@ use Rattle.chain_draft.proofs.ChainDraft.seal.Goals as goal
 abbrev meant : Pair ByteStages (Pair (Single BytesCodec) (Pair ArrayCodec ArrayCodec)) → Stage Form ℕ
 meant p =
     chain_stage (λ a. after (chosen_array a.outer) (chosen_array a.inner))
-    (λ b. single array_bytes (λ n. n) (byte_ordering b.codec.endian)) byte_stages_mean p
+    (λ b. single array_bytes (λ n. n) (byte_ordering b.codec.endian)) (λ s. after (after (chosen_stage s.seats.outer.outer) (chosen_stage s.seats.outer.inner)) (after (chosen_stage s.seats.inner.outer) (chosen_stage s.seats.inner.inner))) p
 
 pub unwrap-requires : goal.unwrap-requires
 unwrap-requires c κs =

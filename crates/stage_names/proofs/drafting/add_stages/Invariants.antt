@@ -8,6 +8,4 @@ use Rattle.stage_names.proofs.drafting.add_stages.Given as goal
 -- what adding the rest gives is what adding all gives
 abbrev pub invariant-loop-name : goal.invariant-loop-name
 invariant-loop-name l =
-    (new : ChainDraft) (r : Result (Unit {0}) Fault)
-    → AddedAll l.draft (map said_stage (drop l.name-index l.names)) new r
-    → AddedAll l.initial.draft (map said_stage l.names) new r
+    (r : Result ChainDraft Fault) → AddedAll l.draft (map said_stage (drop l.name-index l.names)) r → AddedAll l.initial.draft (map said_stage l.names) r

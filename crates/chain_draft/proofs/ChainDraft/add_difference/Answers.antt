@@ -1,6 +1,6 @@
 use Rattle.std.proofs.Common.{refl}
 use Rattle.chain_draft.proofs.Adding.{added}
-use Rattle.chain_draft.proofs.ChainDraft.difference.Goals as goal
+use Rattle.chain_draft.proofs.ChainDraft.add_difference.Goals as goal
 
 pub returns-clause-answer : goal.returns-clause-answer
 returns-clause-answer c =

@@ -5,7 +5,7 @@ use Rattle.std.specs.List.{find}
 use Rattle.std.specs.Str.{bytes_eq}
 use Rattle.vectors.specs.Kind.{kind_name, Named}
 use Rattle.vectors.specs.declared.kind.Kind.{Kind}
-use Rattle.vectors.specs.declared.kind.Kind.TheVariants.{Shuffle, ShuffleRefuse, ChecksumFunction, ChecksumFile, ChecksumFileBad, ShuffleChecksum, ChecksumShuffle, Transpose, Difference, BytesBig}
+use Rattle.vectors.specs.declared.kind.Kind.TheVariants.{Shuffle, ShuffleRefuse, ChecksumFunction, ChecksumFile, ChecksumFileBad, ShuffleChecksum, ChecksumShuffle, Transpose, Difference, BytesBig, Chain}
 use Rattle.vectors.specs.declared.kind.UnknownKind.{UnknownKind}
 use Rattle.vectors.specs.declared.kind.TheConstants.{KINDS}
 
@@ -25,6 +25,7 @@ back ChecksumShuffle = refl
 back Transpose = refl
 back Difference = refl
 back BytesBig = refl
+back Chain = refl
 
 only_step : (word : List ℕ) (kind : Kind) (kinds : List Kind) (b : Bool) → bytes_eq (kind_name kind) word ≡ b → IfSome (find (is_named word) kinds) (λ k. kind_name k ≡ word) → IfSome (cond b (Some kind) (find (is_named word) kinds)) (λ k. kind_name k ≡ word)
 only_step word kind kinds true e h = (bytes_eq-Decides (kind_name kind) word).0 e

@@ -1,7 +1,7 @@
 -- The kinds of vectors, and the words that name them.
 use Rattle.std.specs.Prelude.{◌≡◌, ◌↔◌, List, ℕ, Result, Ok, codes}
 use Rattle.vectors.specs.declared.kind.Kind.{Kind}
-use Rattle.vectors.specs.declared.kind.Kind.TheVariants.{Shuffle, ShuffleRefuse, ChecksumFunction, ChecksumFile, ChecksumFileBad, ShuffleChecksum, ChecksumShuffle, Transpose, Difference, BytesBig}
+use Rattle.vectors.specs.declared.kind.Kind.TheVariants.{Shuffle, ShuffleRefuse, ChecksumFunction, ChecksumFile, ChecksumFileBad, ShuffleChecksum, ChecksumShuffle, Transpose, Difference, BytesBig, Chain}
 use Rattle.vectors.specs.declared.kind.UnknownKind.{UnknownKind}
 
 -- the word for a kind
@@ -16,6 +16,7 @@ kind_name ChecksumShuffle = codes "hdf5-fletcher-shuffle"
 kind_name Transpose = codes "transpose"
 kind_name Difference = codes "difference"
 kind_name BytesBig = codes "bytes-big"
+kind_name Chain = codes "chain"
 
 -- the result is a kind exactly where the word is its name
 abbrev pub Named : List ℕ → Result Kind UnknownKind → Type 0

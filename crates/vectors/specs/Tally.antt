@@ -1,7 +1,7 @@
 -- How many vectors of each kind were equal, and how many differed.
 use Rattle.std.specs.Prelude.{ℕ, ◌+◌, ◌-◌, ◌^◌, min, Bool, true, false, List, ◌++◌, slice_index_or, decimal, codes}
 use Rattle.vectors.specs.declared.kind.Kind.{Kind}
-use Rattle.vectors.specs.declared.kind.Kind.TheVariants.{Shuffle, ShuffleRefuse, ChecksumFunction, ChecksumFile, ChecksumFileBad, ShuffleChecksum, ChecksumShuffle, Transpose, Difference, BytesBig}
+use Rattle.vectors.specs.declared.kind.Kind.TheVariants.{Shuffle, ShuffleRefuse, ChecksumFunction, ChecksumFile, ChecksumFileBad, ShuffleChecksum, ChecksumShuffle, Transpose, Difference, BytesBig, Chain}
 use Rattle.vectors.specs.declared.kind.Count.{Count}
 use Rattle.vectors.specs.declared.kind.Tally.{Tally}
 
@@ -17,6 +17,7 @@ place_of ChecksumShuffle = 6
 place_of Transpose = 7
 place_of Difference = 8
 place_of BytesBig = 9
+place_of Chain = 10
 
 abbrev pub no_count : Count
 no_count = record { equal = 0; differ = 0 }

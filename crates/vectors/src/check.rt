@@ -10,15 +10,24 @@ use base_codecs::single::Single;
 use buffers::Buffers;
 use byte_codecs::byte_codec::{self, ByteCodec};
 use bytes_codec::bytes_codec::{BytesCodec, Endianness};
+use chain_draft::ChainDraft;
+use chain_draft::byte_stages::ByteStages;
+use chain_draft::sealing::ArrayStages;
+use codec_chain::fitted_chain::FittedChain;
 use difference::difference_codec::DifferenceCodec;
 use fletcher32::fletcher32_codec::Fletcher32Codec;
 use form::array_form::Form;
 use form::data_type::DataType;
 use form::fault::Fault;
+use form::settings::Settings;
 use pair::Pair;
 use shuffle::shuffle_codec::ShuffleCodec;
 use stage::codec::Codec;
+use stage_names::drafting::add_stages;
+use stage_names::name::StageName;
 use transpose::transpose_codec::TransposeCodec;
+
+type Chain = FittedChain<ArrayStages, Single<BytesCodec>, ByteStages>;
 
 // Undoes all singles into the output, with checks on.
 fn undo_all<C: Codec>(
@@ -59,6 +68,13 @@ fn row_form(bytes: usize, code: usize) -> Result<Form, Fault> {
     array_form(&[bytes / size], code)
 }
 
+// The chain of the stages, with the form.
+fn chain(stages: &[StageName], form: &Form) -> Result<Chain, Fault> {
+    let mut draft = ChainDraft::new();
+    add_stages(&mut draft, stages)?;
+    draft.seal()?.fit(form)
+}
+
 // Whether the input is encoded to the peer's output, and this is undone to the input.
 fn both_ways<C: Codec>(buffers: &mut Buffers, vector: &Vector, codec: &C, form: &C::Decoded) -> bool
     ensures { SameLengths buffers.old buffers.new }
@@ -73,6 +89,48 @@ fn both_ways<C: Codec>(buffers: &mut Buffers, vector: &Vector, codec: &C, form: 
     }
     let count = undo_all(buffers, codec, form, output.as_slice());
     output_is(buffers, count, input)
+}
+
+// Whether the chain encodes an array to just these bytes.
+fn encodes(buffers: &mut Buffers, chain: &Chain, array: &[u8], encoded: &[u8]) -> bool
+    ensures { SameLengths buffers.old buffers.new }
+{
+    let count = chain.encode(
+        array,
+        buffers.output.as_mut_slice(),
+        buffers.work.as_mut_slice(),
+        buffers.scratch.as_mut_slice(),
+    );
+    output_is(buffers, count, encoded)
+}
+
+// Whether the chain decodes bytes to just this array.
+fn decodes(buffers: &mut Buffers, chain: &Chain, checks: bool, encoded: &[u8], array: &[u8]) -> bool
+    ensures { SameLengths buffers.old buffers.new }
+{
+    let count = chain.decode(
+        &Settings { checks },
+        encoded,
+        buffers.output.as_mut_slice(),
+        buffers.work.as_mut_slice(),
+        buffers.scratch.as_mut_slice(),
+    );
+    output_is(buffers, count, array)
+}
+
+// Whether the chain encodes the input to the peer's output, and decodes this to the input, with checks off and with checks on.
+// The encoding stands between, so that the second decoding does not find the array in the output already.
+fn chain_both_ways(buffers: &mut Buffers, vector: &Vector, chain: &Chain) -> bool
+    ensures { SameLengths buffers.old buffers.new }
+{
+    let Some(output) = &vector.output else {
+        return false;
+    };
+    let array = vector.input.as_slice();
+    let encoded = output.as_slice();
+    decodes(buffers, chain, false, encoded, array)
+        && encodes(buffers, chain, array, encoded)
+        && decodes(buffers, chain, true, encoded, array)
 }
 
 // Whether the shuffle refuses the length, as the peer does.
@@ -141,6 +199,10 @@ fn run(buffers: &mut Buffers, vector: &Vector) -> Result<bool, Fault>
         (Kind::BytesBig, Params::DataType(code)) => {
             let codec = Single::new(BytesCodec::new(Some(Endianness::Big)));
             both_ways(buffers, vector, &codec, &row_form(bytes, *code)?)
+        }
+        (Kind::Chain, Params::Stages { code, shape, stages }) => {
+            let form = array_form(shape.as_slice(), *code)?;
+            chain_both_ways(buffers, vector, &chain(stages.as_slice(), &form)?)
         }
         _ => false,
     };

@@ -28,9 +28,11 @@ pub enum Kind {
     Difference,
     // an array with the most significant byte of each element first
     BytesBig,
+    // an array that a chain of stages encoded
+    Chain,
 }
 
-pub const KINDS: [Kind; 10] = [
+pub const KINDS: [Kind; 11] = [
     Kind::Shuffle,
     Kind::ShuffleRefuse,
     Kind::ChecksumFunction,
@@ -41,6 +43,7 @@ pub const KINDS: [Kind; 10] = [
     Kind::Transpose,
     Kind::Difference,
     Kind::BytesBig,
+    Kind::Chain,
 ];
 
 impl Kind {
@@ -58,6 +61,7 @@ impl Kind {
             Kind::Transpose => "transpose",
             Kind::Difference => "difference",
             Kind::BytesBig => "bytes-big",
+            Kind::Chain => "chain",
         }
     }
 }
@@ -116,7 +120,7 @@ impl fmt::Display for Count {
 // A count for each kind, at the place of the kind; a map could run out of memory, and `count` cannot fail.
 #[derive(Clone, Copy)]
 pub struct Tally {
-    counts: [Count; 10],
+    counts: [Count; 11],
 }
 
 impl Tally {
@@ -124,7 +128,7 @@ impl Tally {
         ensures { (kind : _) → count_of result kind ≡ no_count }
     {
         Tally {
-            counts: [Count::default(); 10],
+            counts: [Count::default(); 11],
         }
     }
 

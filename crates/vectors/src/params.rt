@@ -1,10 +1,14 @@
 // The parameters of a vector: `NAME=VALUE` pairs that semicolons join, or `-`.
 ghost use Rattle.std.specs.Prelude.{◌≡◌, map, IfOk, vec_items};
 ghost use Rattle.std.specs.Option.{option_map};
-ghost use Rattle.vectors.specs.Params.{parts_of, number_behind, numbers_behind, one_of, axes_of, params_of, said};
+ghost use Rattle.stage_names.specs.Names.{said_stage};
+ghost use Rattle.vectors.specs.Params.{number_behind, numbers_behind, stages_behind, one_of, array_of, params_of, said};
 
+use stage_names::name::StageName;
+use stage_names::word::parse_stages;
 use std::alloc::{AllocError, Global};
-use text::number::parse_number;
+use text::list::{parse_list, parts};
+use text::number::parse_size;
 
 #[derive(Drop)]
 pub enum Params {
@@ -20,21 +24,19 @@ pub enum Params {
         shape: Vec<usize>,
         order: Vec<usize>,
     },
-}
-
-// The parts of a word that a separator joins.
-fn parts(heap: Global, word: &[u8], separator: u8) -> Result<Vec<&[u8]>, AllocError>
-    ensures { IfOk result (λ v. map (λ part. part.now) (vec_items v) ≡ parts_of separator word.now) }
-{
-    word.split(|b| *b == separator).collect(heap)
+    // `type=CODE;shape=LENGTHS;stages=STAGES`
+    Stages {
+        code: usize,
+        shape: Vec<usize>,
+        stages: Vec<StageName>,
+    },
 }
 
 // The number behind the front of a pair.
 fn number(pair: &[u8], front: &[u8]) -> Option<usize>
     ensures { result ≡ number_behind front.now pair.now }
 {
-    let n = parse_number(pair.strip_prefix(front)?)?;
-    Some(n as usize)
+    parse_size(pair.strip_prefix(front)?)
 }
 
 // The numbers behind the front of a pair.
@@ -49,15 +51,17 @@ fn numbers(
     let Some(list) = pair.strip_prefix(front) else {
         return Ok(None);
     };
-    let words = parts(heap, list, separator)?;
-    let mut numbers = Vec::new(heap);
-    for word in &words {
-        let Some(n) = parse_number(word) else {
-            return Ok(None);
-        };
-        numbers.push(n as usize)?;
-    }
-    Ok(Some(numbers))
+    parse_list(heap, list, separator)
+}
+
+// The stages of a pair.
+fn stages(heap: Global, pair: &[u8]) -> Result<Option<Vec<StageName>>, AllocError>
+    ensures { IfOk result (λ o. option_map (λ v. map said_stage (vec_items v)) o ≡ stages_behind pair.now) }
+{
+    let Some(list) = pair.strip_prefix(b"stages=") else {
+        return Ok(None);
+    };
+    parse_stages(heap, list)
 }
 
 // What a lone pair says.
@@ -74,14 +78,14 @@ fn parse_one(pair: &[u8]) -> Option<Params>
     Some(Params::DataType(code))
 }
 
-// What the three pairs of an array and an order of its axes say.
-fn parse_axes(
+// What the two pairs of an array say, with one of an order of its axes or of stages.
+fn parse_array(
     heap: Global,
     code: &[u8],
     shape: &[u8],
-    order: &[u8],
+    coding: &[u8],
 ) -> Result<Option<Params>, AllocError>
-    ensures { IfOk result (λ o. option_map said o ≡ axes_of code.now shape.now order.now) }
+    ensures { IfOk result (λ o. option_map said o ≡ array_of code.now shape.now coding.now) }
 {
     let Some(code) = number(code, b"type=") else {
         return Ok(None);
@@ -89,8 +93,15 @@ fn parse_axes(
     let Some(shape) = numbers(heap, shape, b"shape=", b'x')? else {
         return Ok(None);
     };
-    let order = numbers(heap, order, b"order=", b',')?;
-    Ok(order.map(|order| Params::Axes { code, shape, order }))
+    if let Some(order) = numbers(heap, coding, b"order=", b',')? {
+        return Ok(Some(Params::Axes { code, shape, order }));
+    }
+    let stages = stages(heap, coding)?;
+    Ok(stages.map(|stages| Params::Stages {
+        code,
+        shape,
+        stages,
+    }))
 }
 
 // What a word of parameters says, or None where it says nothing that a vector has.
@@ -99,7 +110,7 @@ pub fn parse_params(heap: Global, word: &[u8]) -> Result<Option<Params>, AllocEr
 {
     match parts(heap, word, b';')?.as_slice() {
         [pair] => Ok(parse_one(pair)),
-        [code, shape, order] => parse_axes(heap, code, shape, order),
+        [code, shape, coding] => parse_array(heap, code, shape, coding),
         _ => Ok(None),
     }
 }

@@ -200,7 +200,14 @@ fn run(buffers: &mut Buffers, vector: &Vector) -> Result<bool, Fault>
             let codec = Single::new(BytesCodec::new(Some(Endianness::Big)));
             both_ways(buffers, vector, &codec, &row_form(bytes, *code)?)
         }
-        (Kind::Chain, Params::Stages { code, shape, stages }) => {
+        (
+            Kind::Chain,
+            Params::Stages {
+                code,
+                shape,
+                stages,
+            },
+        ) => {
             let form = array_form(shape.as_slice(), *code)?;
             chain_both_ways(buffers, vector, &chain(stages.as_slice(), &form)?)
         }

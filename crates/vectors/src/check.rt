@@ -119,7 +119,7 @@ fn decodes(buffers: &mut Buffers, chain: &Chain, checks: bool, encoded: &[u8], a
 }
 
 // Whether the chain encodes the input to the peer's output, and decodes this to the input, with checks off and with checks on.
-// The encoding stands between, so that the second decoding does not find the array in the output already.
+// The encoding stands between, so that the second decoding writes the array anew unless the encoded bytes begin with it.
 fn chain_both_ways(buffers: &mut Buffers, vector: &Vector, chain: &Chain) -> bool
     ensures { SameLengths buffers.old buffers.new }
 {

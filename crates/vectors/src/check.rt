@@ -70,8 +70,7 @@ fn row_form(bytes: usize, code: usize) -> Result<Form, Fault> {
 
 // The chain of the stages, with the form.
 fn chain(stages: &[StageName], form: &Form) -> Result<Chain, Fault> {
-    let mut draft = ChainDraft::new();
-    add_stages(&mut draft, stages)?;
+    let draft = add_stages(ChainDraft::new(), stages)?;
     draft.seal()?.fit(form)
 }
 

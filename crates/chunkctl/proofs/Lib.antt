@@ -1,3 +1,3 @@
 mod Called
+mod Drafting
 mod Listing
-mod Seating

@@ -24,9 +24,9 @@ use Rattle.chunkctl.specs.declared.command.Command.{Command}
 use Rattle.chunkctl.specs.declared.command.Command.TheVariants.{Help, Out, Work, Peek, Form as NewForm, Stages as NewStages, Singles, Lengths, Encode, Undo, Sum, Data}
 use Rattle.chunkctl.specs.declared.command.Run.{Run}
 use Rattle.chunkctl.specs.declared.command.Undo.{Undo as Undoing}
-use Rattle.chunkctl.specs.declared.seats.Stages.{Stages}
-use Rattle.chunkctl.specs.declared.seats.Stages.TheVariants.{ArrayToArray, ArrayToBytes, BytesToBytes}
-use Rattle.chunkctl.specs.Seats.{array_stage, bytes_stage, byte_stage, run_refusal, Built}
+use Rattle.chunkctl.specs.declared.stages.Stages.{Stages}
+use Rattle.chunkctl.specs.declared.stages.Stages.TheVariants.{ArrayToArray, ArrayToBytes, BytesToBytes}
+use Rattle.chunkctl.specs.Stages.{array_stage, bytes_stage, byte_stage, Built}
 
 -- a refusal with a number alone
 abbrev pub IsRefused : ℕ → Trouble → Type 0
@@ -93,9 +93,13 @@ FormSet shape code fill new r =
     Unrefused (form_refusal shape code fill)
     (λ a. (a ≡ Formed (product shape) (product shape * size_of_code code)) × ((f : Form) × (new ≡ Some f) × Made shape code fill f)) r
 
--- so are stages
+-- stages that were made are kept and answered for, and where they were refused that is told
+abbrev pub Taken : {X : Type 0} → (X → Stages) → (X → Answer) → Result X Fault → Option Stages → Result Answer Trouble → Type 0
+Taken stages answer (Ok x) new r = (new ≡ Some (stages x)) × (r ≡ Ok (answer x))
+Taken stages answer (Err e) new r = r ≡ Err (Refused e)
+
 abbrev pub StagesSet : Run → Option Stages → Result Answer Trouble → Type 0
-StagesSet run new r = Unrefused (run_refusal run) (λ a. (a ≡ Done) × ((s : Stages) × (new ≡ Some s) × Built run s)) r
+StagesSet run new r = (made : Result Stages Fault) × (Built run made × Taken (λ s. s) (λ s. Done) made new r)
 
 -- what is decoded: a length for stages over bytes, and the form for those over arrays
 abbrev pub length_of : Option ℕ → Result ℕ Complaint

@@ -1,4 +1,5 @@
-pub mod Seats
+pub mod Stages
+pub mod Runs
 pub mod Carried
 pub mod Lines
 pub mod Lists

@@ -1,13 +1,16 @@
 // The commands, and how a line says one.
+ghost use Rattle.std.specs.Prelude.{◌≡◌};
+ghost use Rattle.std.specs.List.{list_all};
 ghost use Rattle.text.specs.List.{listed, all_said};
 ghost use Rattle.text.specs.Number.{number_of};
 ghost use Rattle.stage_names.specs.Names.{said_stage, stages_of};
 ghost use Rattle.chunkctl.specs.Lists.{ListRead};
+ghost use Rattle.chunkctl.specs.Runs.{is_over_arrays, is_over_bytes, run_of};
 
 use crate::trouble::Complaint;
 use bytes_codec::bytes_codec::Endianness;
 use form::data_type::DataType;
-use stage_names::name::{ArrayName, ByteName, StageName};
+use stage_names::name::StageName;
 use stage_names::word::parse_stages;
 use std::alloc::Global;
 use text::hex::parse_hex;
@@ -18,42 +21,45 @@ use text::words::next_word;
 // Stages of one kind, in encode order.
 #[derive(Drop)]
 pub enum Run {
-    ArrayToArray(Vec<ArrayName>),
+    ArrayToArray(Vec<StageName>),
     // a bytes stage stands alone
     ArrayToBytes(Option<Endianness>),
-    BytesToBytes(Vec<ByteName>),
+    BytesToBytes(Vec<StageName>),
 }
 
-fn array_to_array(name: StageName) -> Result<ArrayName, Complaint> {
-    match name {
-        StageName::ArrayToArray(name) => Ok(name),
-        _ => Err(Complaint::StageKinds),
-    }
+// Whether all stages are over arrays.
+fn over_arrays(stages: &[StageName]) -> bool
+    ensures { result ≡ list_all is_over_arrays stages.now }
+{
+    stages
+        .iter()
+        .all(|stage| matches!(stage, StageName::ArrayToArray(_)))
 }
 
-fn bytes_to_bytes(name: StageName) -> Result<ByteName, Complaint> {
-    match name {
-        StageName::BytesToBytes(name) => Ok(name),
-        _ => Err(Complaint::StageKinds),
-    }
+// Whether all are over bytes.
+fn over_bytes(stages: &[StageName]) -> bool
+    ensures { result ≡ list_all is_over_bytes stages.now }
+{
+    stages
+        .iter()
+        .all(|stage| matches!(stage, StageName::BytesToBytes(_)))
 }
 
 impl Run {
-    // The stages as a run of the kind of the first; no stages are a run over bytes.
-    fn of(heap: Global, names: Vec<StageName>) -> Result<Run, Complaint> {
-        match names.as_slice() {
-            [StageName::ArrayToArray(_), ..] => names
-                .into_iter()
-                .map(array_to_array)
-                .try_collect(heap)
-                .map(Run::ArrayToArray),
-            [StageName::ArrayToBytes(endian)] => Ok(Run::ArrayToBytes(*endian)),
-            _ => names
-                .into_iter()
-                .map(bytes_to_bytes)
-                .try_collect(heap)
-                .map(Run::BytesToBytes),
+    // The stages as a run of their kind; no stages are a run over bytes.
+    fn of(names: Vec<StageName>) -> Result<Run, Complaint>
+        ensures { result ≡ run_of names }
+    {
+        if let [StageName::ArrayToBytes(endian)] = names.as_slice() {
+            return Ok(Run::ArrayToBytes(*endian));
         }
+        if over_bytes(names.as_slice()) {
+            return Ok(Run::BytesToBytes(names));
+        }
+        if over_arrays(names.as_slice()) {
+            return Ok(Run::ArrayToArray(names));
+        }
+        Err(Complaint::StageKinds)
     }
 }
 
@@ -198,7 +204,7 @@ fn parse_words(name: &[u8], words: &mut Words<'_>) -> Result<Command, Complaint>
             code: parse_type(words.next()?)?,
             fill: words.hex()?,
         },
-        b"stages" => Command::Stages(Run::of(words.heap, parse_names(words.heap, words.next()?)?)?),
+        b"stages" => Command::Stages(Run::of(parse_names(words.heap, words.next()?)?)?),
         b"singles" => Command::Singles,
         b"lengths" => Command::Lengths(words.decoded()?),
         b"encode" => Command::Encode(words.hex()?),

@@ -15,8 +15,8 @@ use trouble::{Complaint, Trouble};
 mod answer;
 mod command;
 mod line;
-mod seats;
 mod session;
+mod stages;
 mod trouble;
 
 // Carries out a line.

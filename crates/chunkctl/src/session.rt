@@ -4,7 +4,7 @@ ghost use Rattle.chunkctl.specs.Carried.{NotMade, OutputSet, WorkSet, FormSet, S
 
 use crate::answer::{Answer, Single};
 use crate::command::{Command, Run, Undo};
-use crate::seats::{Stages, built};
+use crate::stages::{Stages, built};
 use crate::trouble::{Complaint, Trouble};
 use buffers::Buffers;
 use fletcher32::fletcher32_codec::{data_before_checksum, h5_checksum_fletcher32};

@@ -12,7 +12,7 @@ use Rattle.chunkctl.specs.declared.trouble.Trouble.{Trouble}
 use Rattle.chunkctl.specs.declared.trouble.Trouble.TheVariants.{Refused}
 use Rattle.chunkctl.specs.declared.answer.Answer.{Answer}
 use Rattle.chunkctl.specs.declared.answer.Answer.TheVariants.{Form as Formed}
-use Rattle.chunkctl.specs.Carried.{Unrefused, IsRefused, FormSet}
+use Rattle.chunkctl.specs.Carried.{Unrefused, IsRefused, FormSet, form_of}
 
 pub refused_by : {X : Type 0} (o : Option ℕ) (P : X → Type 0) (Q : Answer → Type 0) (e : Fault) (r : Result Answer Trouble) → IsErrAnd r (λ t. t ≡ Refused e) → Answers o P (Err e) → Unrefused o Q r
 refused_by None P Q e r h a = absurd a
@@ -43,3 +43,7 @@ form_set shape code fill f n m h en em =
     let size : element_size f ≡ size_of_code code = sym (code_size f.data_type) ∙ ap size_of_code made.code_is in
     let bytes : m ≡ product shape * size_of_code code = em ∙ (ap (λ s. product s * element_size f) made.shape_is ∙ ap (λ k. product shape * k) size) in
     (cc (count, bytes), (f, refl, made)))
+
+pub form_there : (o : Option Form) (f : Form) → Ok f ≡ form_of None o → o ≡ Some f
+form_there None f e = cc
+form_there (Some g) f e = cc

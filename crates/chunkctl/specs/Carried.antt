@@ -1,5 +1,5 @@
 -- What a command leaves and answers.
-use Rattle.std.specs.Prelude.{◌≡◌, ℕ, ◌+◌, ◌-◌, ◌*◌, ◌<◌, ◌≤◌, ◌⊎◌, List, ◌++◌, length, map, take, drop, replicate, Some, None, Ok, Err, vec_items, vec_len, Option, Result, OnErr}
+use Rattle.std.specs.Prelude.{◌≡◌, ℕ, ◌+◌, ◌-◌, ◌*◌, ◌<◌, ◌≤◌, ◌⊎◌, Bool, List, ◌++◌, length, map, take, drop, replicate, Some, None, Ok, Err, vec_items, vec_len, Option, Result, OnErr}
 use Rattle.std.specs.List.{range_with_len}
 use Rattle.fletcher32.specs.Fletcher32.{fletcher32}
 use Rattle.form.specs.declared.fault.Fault.{Fault}
@@ -13,20 +13,23 @@ use Rattle.stage.specs.Stage.{Stage}
 use Rattle.stage.specs.Arrays.{array_bytes}
 use Rattle.stage.specs.Calls.{encode_answer, undo_answer}
 use Rattle.buffers.specs.declared.Buffers.{Buffers}
+use Rattle.codec_chain.specs.Place.{cache_index}
+use Rattle.codec_chain.specs.Whole.{encode_whole, decode_whole, decoded}
+use Rattle.stage_names.specs.Names.{SaidStage}
 use Rattle.chunkctl.specs.declared.trouble.Trouble.{Trouble}
 use Rattle.chunkctl.specs.declared.trouble.Trouble.TheVariants.{Refused, Error}
 use Rattle.chunkctl.specs.declared.trouble.Complaint.{Complaint}
-use Rattle.chunkctl.specs.declared.trouble.Complaint.TheVariants.{NoMemory, BufferTooLarge, NoStages, ByteLength, ArrayLength, NoForm}
+use Rattle.chunkctl.specs.declared.trouble.Complaint.TheVariants.{NoMemory, BufferTooLarge, NoStages, ByteLength, ArrayLength, NoForm, NoChain}
 use Rattle.chunkctl.specs.declared.answer.Answer.{Answer}
-use Rattle.chunkctl.specs.declared.answer.Answer.TheVariants.{Done, Commands, Form as Formed, Output, Bytes, Singles as SinglesAre, Lengths as LengthsAre, Sum as SumIs}
+use Rattle.chunkctl.specs.declared.answer.Answer.TheVariants.{Done, Commands, Form as Formed, Chain as ChainIs, Output, Bytes, Singles as SinglesAre, Lengths as LengthsAre, Sum as SumIs}
 use Rattle.chunkctl.specs.declared.session.Session.{Session}
 use Rattle.chunkctl.specs.declared.command.Command.{Command}
-use Rattle.chunkctl.specs.declared.command.Command.TheVariants.{Help, Out, Work, Peek, Form as NewForm, Stages as NewStages, Singles, Lengths, Encode, Undo, Sum, Data}
+use Rattle.chunkctl.specs.declared.command.Command.TheVariants.{Help, Out, Work, Peek, Form as NewForm, Stages as NewStages, Chain as NewChain, Singles, Lengths, Encode, Decode, Undo, Sum, Data}
 use Rattle.chunkctl.specs.declared.command.Run.{Run}
 use Rattle.chunkctl.specs.declared.command.Undo.{Undo as Undoing}
 use Rattle.chunkctl.specs.declared.stages.Stages.{Stages}
-use Rattle.chunkctl.specs.declared.stages.Stages.TheVariants.{ArrayToArray, ArrayToBytes, BytesToBytes}
-use Rattle.chunkctl.specs.Stages.{array_stage, bytes_stage, byte_stage, Built}
+use Rattle.chunkctl.specs.declared.stages.Stages.TheVariants.{ArrayToArray, ArrayToBytes, BytesToBytes, Chain}
+use Rattle.chunkctl.specs.Stages.{array_stage, bytes_stage, byte_stage, ChainStages, chain_mean, said, Built, Chained}
 
 -- a refusal with a number alone
 abbrev pub IsRefused : ℕ → Trouble → Type 0
@@ -45,6 +48,7 @@ abbrev pub bytes_of : Answer → Option (List ℕ)
 bytes_of Done = None
 bytes_of Commands = None
 bytes_of (Formed n m) = None
+bytes_of (ChainIs place n) = None
 bytes_of (Output n) = None
 bytes_of (Bytes v) = Some (vec_items v)
 bytes_of (SinglesAre v) = None
@@ -56,6 +60,7 @@ abbrev pub singles_of : Answer → Option (List PartialDecoderCapability)
 singles_of Done = None
 singles_of Commands = None
 singles_of (Formed n m) = None
+singles_of (ChainIs place n) = None
 singles_of (Output n) = None
 singles_of (Bytes v) = None
 singles_of (SinglesAre v) = Some (map (λ s. s.0) (vec_items v))
@@ -66,6 +71,7 @@ abbrev pub lengths_of : Answer → Option (List ℕ)
 lengths_of Done = None
 lengths_of Commands = None
 lengths_of (Formed n m) = None
+lengths_of (ChainIs place n) = None
 lengths_of (Output n) = None
 lengths_of (Bytes v) = None
 lengths_of (SinglesAre v) = None
@@ -101,6 +107,20 @@ Taken stages answer (Err e) new r = r ≡ Err (Refused e)
 abbrev pub StagesSet : Run → Option Stages → Result Answer Trouble → Type 0
 StagesSet run new r = (made : Result Stages Fault) × (Built run made × Taken (λ s. s) (λ s. Done) made new r)
 
+-- a chain is kept with the form that it is fitted to
+abbrev pub IsChain : ChainStages → Form → Option Stages → Type 0
+IsChain p form (Some (Chain c)) = (c.chain.stages ≡ p) × (c.form ≡ form)
+IsChain p form _ = ⊥
+
+abbrev pub ChainTaken : Form → Result ChainStages Fault → Option Stages → Result Answer Trouble → Type 0
+ChainTaken form (Ok p) new r =
+    IsChain p form new × (r ≡ Ok (ChainIs (cache_index (chain_mean p).singles) ((chain_mean p).size form 0)))
+ChainTaken form (Err e) new r = r ≡ Err (Refused e)
+
+abbrev pub ChainSet : List SaidStage → Option Form → Option Stages → Result Answer Trouble → Type 0
+ChainSet stages None new r = r ≡ Err (Error NoForm)
+ChainSet stages (Some form) new r = (made : Result ChainStages Fault) × (Chained stages form made × ChainTaken form made new r)
+
 -- what is decoded: a length for stages over bytes, and the form for those over arrays
 abbrev pub length_of : Option ℕ → Result ℕ Complaint
 length_of (Some n) = Ok n
@@ -126,6 +146,7 @@ SinglesAnswer None r = r ≡ Err (Error NoStages)
 SinglesAnswer (Some (ArrayToArray s)) r = SinglesTold (array_stage s).singles r
 SinglesAnswer (Some (ArrayToBytes s)) r = SinglesTold (bytes_stage s).singles r
 SinglesAnswer (Some (BytesToBytes s)) r = SinglesTold (byte_stage s).singles r
+SinglesAnswer (Some (Chain c)) r = SinglesTold (chain_mean c.chain.stages).singles r
 
 -- the length at every place, unless the form is refused or there is no memory for that
 abbrev pub LengthsTold : {F G : Type 0} → Stage F G → F → Result Answer Trouble → Type 0
@@ -138,6 +159,7 @@ LengthsAnswer None form decoded r = r ≡ Err (Error NoStages)
 LengthsAnswer (Some (ArrayToArray s)) form decoded r = Decoding (form_of decoded form) (LengthsTold (array_stage s)) r
 LengthsAnswer (Some (ArrayToBytes s)) form decoded r = Decoding (form_of decoded form) (LengthsTold (bytes_stage s)) r
 LengthsAnswer (Some (BytesToBytes s)) form decoded r = Decoding (length_of decoded) (LengthsTold (byte_stage s)) r
+LengthsAnswer (Some (Chain c)) form decoded r = Decoding (form_of decoded (Some c.form)) (LengthsTold (chain_mean c.chain.stages)) r
 
 -- what a call of the library answers, and what it leaves in an output buffer that held EE
 abbrev pub Called : Result ℕ Refusal → List ℕ → ℕ → List ℕ → Result Answer Trouble → Type 0
@@ -156,17 +178,38 @@ module _ {F G : Type 0} (weight : F → ℕ) (t : Stage F G) (f : F) where
       Called (undo_answer weight t f u.from u.to u.checks (vec_items u.input) (vec_len old.output) (vec_len old.work) (vec_len old.scratch))
       (t.undone f u.from u.to (vec_items u.input)) (vec_len old.output) (vec_items new.output) r
 
+-- and of the whole calls of a chain
+module _ (p : ChainStages) (f : Form) where
+  abbrev pub EncodesWhole : List ℕ → Buffers → Buffers → Result Answer Trouble → Type 0
+  EncodesWhole input old new r =
+      Called (encode_whole array_bytes (chain_mean p) f input (vec_len old.output) (vec_len old.work) (vec_len old.scratch))
+      ((chain_mean p).encoded f input) (vec_len old.output) (vec_items new.output) r
+
+  abbrev pub DecodesWhole : Bool → List ℕ → Buffers → Buffers → Result Answer Trouble → Type 0
+  DecodesWhole checks input old new r =
+      Called (decode_whole array_bytes (chain_mean p) f checks input (vec_len old.output) (vec_len old.work) (vec_len old.scratch))
+      (decoded (chain_mean p) f input) (vec_len old.output) (vec_items new.output) r
+
 abbrev pub Encodes : Option Stages → Option Form → List ℕ → Buffers → Buffers → Result Answer Trouble → Type 0
 Encodes None form input old new r = r ≡ Err (Error NoStages)
 Encodes (Some (ArrayToArray s)) form input old new r = Decoding (form_of None form) (λ f. EncodesBy array_bytes (array_stage s) f input old new) r
 Encodes (Some (ArrayToBytes s)) form input old new r = Decoding (form_of None form) (λ f. EncodesBy array_bytes (bytes_stage s) f input old new) r
 Encodes (Some (BytesToBytes s)) form input old new r = EncodesBy (λ n. n) (byte_stage s) (length input) input old new r
+Encodes (Some (Chain c)) form input old new r = EncodesWhole c.chain.stages c.form input old new r
+
+abbrev pub Decodes : Option Stages → Bool → List ℕ → Buffers → Buffers → Result Answer Trouble → Type 0
+Decodes None checks input old new r = r ≡ Err (Error NoStages)
+Decodes (Some (ArrayToArray s)) checks input old new r = r ≡ Err (Error NoChain)
+Decodes (Some (ArrayToBytes s)) checks input old new r = r ≡ Err (Error NoChain)
+Decodes (Some (BytesToBytes s)) checks input old new r = r ≡ Err (Error NoChain)
+Decodes (Some (Chain c)) checks input old new r = DecodesWhole c.chain.stages c.form checks input old new r
 
 abbrev pub Undoes : Option Stages → Option Form → Undoing → Buffers → Buffers → Result Answer Trouble → Type 0
 Undoes None form u old new r = r ≡ Err (Error NoStages)
 Undoes (Some (ArrayToArray s)) form u old new r = Decoding (form_of u.decoded form) (λ f. UndoesBy array_bytes (array_stage s) f u old new) r
 Undoes (Some (ArrayToBytes s)) form u old new r = Decoding (form_of u.decoded form) (λ f. UndoesBy array_bytes (bytes_stage s) f u old new) r
 Undoes (Some (BytesToBytes s)) form u old new r = Decoding (length_of u.decoded) (λ n. UndoesBy (λ n. n) (byte_stage s) n u old new) r
+Undoes (Some (Chain c)) form u old new r = Decoding (form_of u.decoded (Some c.form)) (λ f. UndoesBy array_bytes (chain_mean c.chain.stages) f u old new) r
 
 -- a call that is carried out or refused leaves the work buffers their lengths, and an error leaves every buffer as it was
 abbrev pub SameLengths : Buffers → Buffers → Type 0
@@ -191,11 +234,15 @@ Ran Peek s t r = (r ≡ Ok (Output (vec_len s.buffers.output))) × (t ≡ s)
 Ran (NewForm shape code fill) s t r =
     FormSet (vec_items shape) code (vec_items fill) t.form r × OnErr r (t ≡ s) × (t.stages ≡ s.stages) × (t.buffers ≡ s.buffers)
 Ran (NewStages run) s t r = StagesSet run t.stages r × OnErr r (t ≡ s) × (t.form ≡ s.form) × (t.buffers ≡ s.buffers)
+Ran (NewChain names) s t r = ChainSet (said names) s.form t.stages r × OnErr r (t ≡ s) × (t.form ≡ s.form) × (t.buffers ≡ s.buffers)
 Ran Singles s t r = SinglesAnswer s.stages r × (t ≡ s)
 Ran (Lengths decoded) s t r = LengthsAnswer s.stages s.form decoded r × (t ≡ s)
 Ran (Encode bytes) s t r =
     (t.form ≡ s.form) × (t.stages ≡ s.stages) ×
     Encodes s.stages s.form (vec_items bytes) s.buffers t.buffers r × Kept s.buffers t.buffers r
+Ran (Decode checks bytes) s t r =
+    (t.form ≡ s.form) × (t.stages ≡ s.stages) ×
+    Decodes s.stages checks (vec_items bytes) s.buffers t.buffers r × Kept s.buffers t.buffers r
 Ran (Undo u) s t r =
     (t.form ≡ s.form) × (t.stages ≡ s.stages) ×
     Undoes s.stages s.form u s.buffers t.buffers r × Kept s.buffers t.buffers r

@@ -1,12 +1,15 @@
--- Stages that are named, and what they mean.
+-- Stages that are named, chains of them, and what they mean.
 use Rattle.std.specs.Prelude.{◌≡◌, ℕ, List, [], ◌∷◌, map, Some, None, Ok, Err, Option, Result, vec_items}
 use Rattle.std.specs.Global.{Vec}
+use Rattle.std.specs.Option.{MatchOption}
 use Rattle.form.specs.declared.fault.Fault.{Fault}
+use Rattle.form.specs.Answers.{Answers}
 use Rattle.form.specs.declared.array_form.Form.{Form}
 use Rattle.stage.specs.Stage.{Stage}
 use Rattle.stage.specs.Arrays.{array_bytes}
 use Rattle.stage.specs.Single.{single}
 use Rattle.pair.specs.Compose.{after}
+use Rattle.pair.specs.declared.Pair.{Pair}
 use Rattle.base_codecs.specs.declared.single.Single.{Single}
 use Rattle.array_codecs.specs.Chosen.{chosen_array}
 use Rattle.bytes_codec.specs.declared.bytes_codec.BytesCodec.{BytesCodec}
@@ -14,7 +17,8 @@ use Rattle.bytes_codec.specs.ByteOrder.{byte_ordering}
 use Rattle.chain_draft.specs.declared.ChainDraft.{ChainDraft}
 use Rattle.chain_draft.specs.declared.byte_stages.ByteStages.{ByteStages}
 use Rattle.chain_draft.specs.Stages.{byte_stages_mean}
-use Rattle.chain_draft.specs.Seal.{ArrayStages, array_stages, byte_stages}
+use Rattle.chain_draft.specs.Seal.{ArrayStages, array_stages, byte_stages, seal_refusal, Seals}
+use Rattle.codec_chain.specs.Chain.{chain_stage}
 use Rattle.stage_names.specs.declared.name.StageName.{StageName}
 use Rattle.stage_names.specs.Names.{SaidStage, SaidBytes, said_stage}
 use Rattle.stage_names.specs.Drafting.{AddedAll}
@@ -32,6 +36,13 @@ bytes_stage s = single array_bytes (λ n. n) (byte_ordering s.codec.endian)
 
 abbrev pub byte_stage : ByteStages → Stage ℕ ℕ
 byte_stage s = byte_stages_mean s
+
+-- the stages of a chain, and what they mean as one
+abbrev pub ChainStages : Type 0
+ChainStages = Pair ByteStages (Pair (Single BytesCodec) ArrayStages)
+
+abbrev pub chain_mean : ChainStages → Stage Form ℕ
+chain_mean p = chain_stage array_stage bytes_stage byte_stage p
 
 -- what the words say
 abbrev pub said : Vec StageName → List SaidStage
@@ -58,3 +69,13 @@ Built (ArrayNames names) result = Drafted (said names) (λ draft r. r ≡ Ok (Ar
 Built (BytesName endian) result = result ≡ Ok (ArrayToBytes (record { codec = record { endian = endian } }))
 Built (ByteNames names) result =
     Drafted (SaidBytes None ∷ said names) (λ draft r. r ≡ Ok (BytesToBytes (byte_stages draft.bytes_to_bytes.items))) result
+
+-- a draft is sealed, and the chain of its codecs is fitted to the form; p are its stages
+abbrev pub Fits : ChainDraft → Form → Result ChainStages Fault → Type 0
+Fits draft form made =
+    MatchOption (seal_refusal draft)
+    ((p : ChainStages) × Seals draft p (chain_mean p) × Answers ((chain_mean p).refusal form) (λ q. q ≡ p) made)
+    (λ n. Answers (Some n) (λ _. ⊥) made)
+
+abbrev pub Chained : List SaidStage → Form → Result ChainStages Fault → Type 0
+Chained stages form made = Drafted stages (λ draft r. Fits draft form r) made

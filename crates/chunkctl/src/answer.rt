@@ -1,6 +1,6 @@
 // What a command answers, and how it is written.
 ghost use Rattle.std.specs.Prelude.{◌≡◌, ◌++◌, take, IsSome, Some, OnOk};
-ghost use Rattle.chunkctl.specs.Shown.{shown, list_text, single_text, yes_no, value_text, outcome_text, line_text};
+ghost use Rattle.chunkctl.specs.Shown.{shown, list_text, single_text, yes_no, place_text, value_text, outcome_text, line_text};
 
 use crate::trouble::Trouble;
 use stage::capability::PartialDecoderCapability;
@@ -15,6 +15,8 @@ pub enum Answer {
     Commands,
     // how many elements and bytes a form has
     Form(usize, usize),
+    // where what a chain decodes is kept, and how many bytes the encoded has
+    Chain(Option<usize>, usize),
     // so many bytes at the front of the output buffer, which an answer does not borrow: the session goes on
     Output(usize),
     Bytes(Vec<u8>),
@@ -44,7 +46,7 @@ impl fmt::Display for Single {
     }
 }
 
-const COMMANDS: &str = " help out work peek form stages singles lengths encode undo sum data";
+const COMMANDS: &str = " help out work peek form stages chain singles lengths encode decode undo sum data";
 
 // The line of an answer is pushed part by part, and is not one Display: through a formatter the digits of a large buffer take
 // eight times as long. What pushes takes the allocator, if it allocates, and the text, as std's functions do; a struct of the two
@@ -84,6 +86,16 @@ fn push_list<T: fmt::Display>(
     Ok(())
 }
 
+// A place, or that there is none.
+fn push_place(heap: Global, out: &mut Vec<u8>, place: Option<usize>) -> Result<(), AllocError>
+    ensures { OnOk result (out.new.items ≡ out.old.items ++ place_text place) }
+{
+    match place {
+        Some(place) => push_number(heap, out, place as u64),
+        None => push_text(out, "none"),
+    }
+}
+
 // The first n bytes, or all where there are fewer.
 fn front(bytes: &[u8], n: usize) -> &[u8]
     ensures { result.now ≡ take n bytes.now }
@@ -106,6 +118,12 @@ fn push_value(
         Answer::Form(count, bytes) => {
             push_text(out, " ")?;
             push_number(heap, out, *count as u64)?;
+            push_text(out, " ")?;
+            push_number(heap, out, *bytes as u64)
+        }
+        Answer::Chain(place, bytes) => {
+            push_text(out, " ")?;
+            push_place(heap, out, *place)?;
             push_text(out, " ")?;
             push_number(heap, out, *bytes as u64)
         }

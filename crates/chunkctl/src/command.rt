@@ -79,10 +79,13 @@ pub enum Command {
         fill: Vec<u8>,
     },
     Stages(Run),
+    // stages that may be out of order: the library refuses those
+    Chain(Vec<StageName>),
     Singles,
     // the decoded length, where the stages are over bytes
     Lengths(Option<usize>),
     Encode(Vec<u8>),
+    Decode { checks: bool, input: Vec<u8> },
     Undo(Undo),
     Sum(Vec<u8>),
     Data(Vec<u8>),
@@ -205,9 +208,14 @@ fn parse_words(name: &[u8], words: &mut Words<'_>) -> Result<Command, Complaint>
             fill: words.hex()?,
         },
         b"stages" => Command::Stages(Run::of(parse_names(words.heap, words.next()?)?)?),
+        b"chain" => Command::Chain(parse_names(words.heap, words.next()?)?),
         b"singles" => Command::Singles,
         b"lengths" => Command::Lengths(words.decoded()?),
         b"encode" => Command::Encode(words.hex()?),
+        b"decode" => Command::Decode {
+            checks: parse_switch(words.next()?)?,
+            input: words.hex()?,
+        },
         b"undo" => Command::Undo(parse_undo(words)?),
         b"sum" => Command::Sum(words.hex()?),
         b"data" => Command::Data(words.hex()?),

@@ -1,15 +1,18 @@
 // What is kept from line to line, and how a command is carried out.
-ghost use Rattle.std.specs.Prelude.{◌≡◌, ◌≤◌, length, replicate, Some, None, Ok, Err, vec_len, vec_items, IfOk, OnErr};
-ghost use Rattle.chunkctl.specs.Carried.{NotMade, OutputSet, WorkSet, FormSet, StagesSet, length_of, form_of, SinglesTold, SinglesAnswer, LengthsTold, LengthsAnswer, Kept, EncodesBy, UndoesBy, Encodes, Undoes, BeforeSum, Ran};
+ghost use Rattle.std.specs.Prelude.{◌≡◌, ◌≤◌, length, map, replicate, Some, None, Ok, Err, vec_len, vec_items, IfOk, OnErr};
+ghost use Rattle.stage_names.specs.Names.{said_stage};
+ghost use Rattle.chunkctl.specs.Carried.{NotMade, OutputSet, WorkSet, FormSet, StagesSet, ChainSet, length_of, form_of, SinglesTold, SinglesAnswer, LengthsTold, LengthsAnswer, Kept, EncodesBy, UndoesBy, EncodesWhole, DecodesWhole, Encodes, Decodes, Undoes, BeforeSum, Ran};
 
 use crate::answer::{Answer, Single};
 use crate::command::{Command, Run, Undo};
-use crate::stages::{Stages, built};
+use crate::stages::{Chain, Stages, built, chained};
 use crate::trouble::{Complaint, Trouble};
 use buffers::Buffers;
 use fletcher32::fletcher32_codec::{data_before_checksum, h5_checksum_fletcher32};
 use form::array_form::Form;
+use form::settings::{LenientSpan, Settings};
 use stage::codec::Codec;
+use stage_names::name::StageName;
 use std::alloc::{AllocError, Global};
 
 // What an output buffer is filled with.
@@ -80,6 +83,22 @@ fn set_stages(stages: &mut Option<Stages>, run: &Run) -> Result<Answer, Trouble>
     Ok(Answer::Done)
 }
 
+// A chain keeps the form that it is fitted to.
+fn set_chain(
+    stages: &mut Option<Stages>,
+    form: &Option<Form>,
+    names: &[StageName],
+) -> Result<Answer, Trouble>
+    ensures answer { ChainSet (map said_stage names.now) form.now stages.new result }
+    ensures same { OnErr result (stages.new ≡ stages.old) }
+{
+    let form = form_of(None, form)?;
+    let chain = chained(names, &form)?;
+    let answer = Answer::Chain(chain.chain().cache_index(), chain.encoded_len());
+    *stages = Some(Stages::Chain(chain));
+    Ok(answer)
+}
+
 // The stages, once there are any.
 fn chosen(stages: &Option<Stages>) -> Result<&Stages, Complaint>
     ensures { elim result [ Ok s ↦ stages.now ≡ Some s.now | Err c ↦ (stages.now ≡ None) × (c ≡ Complaint.NoStages) ] }
@@ -102,6 +121,13 @@ fn form_of(decoded: Option<usize>, form: &Option<Form>) -> Result<Form, Complain
         return Err(Complaint::ArrayLength);
     }
     form.ok_or(Complaint::NoForm)
+}
+
+// The form that a chain is fitted to.
+fn chain_form(decoded: Option<usize>, chain: &Chain) -> Result<Form, Complaint>
+    ensures { result ≡ form_of decoded (Some chain.now.form) }
+{
+    form_of(decoded, &Some(*chain.form()))
 }
 
 // How many singles there are, if there is memory for a list of so many.
@@ -129,6 +155,7 @@ fn singles(heap: Global, stages: &Option<Stages>) -> Result<Answer, Trouble>
         Stages::ArrayToArray(codec) => singles_by(heap, codec),
         Stages::ArrayToBytes(codec) => singles_by(heap, codec),
         Stages::BytesToBytes(codec) => singles_by(heap, codec),
+        Stages::Chain(chain) => singles_by(heap, chain.chain().stages()),
     }
 }
 
@@ -156,6 +183,10 @@ fn lengths(
         Stages::ArrayToArray(codec) => lengths_by(heap, codec, &form_of(decoded, form)?),
         Stages::ArrayToBytes(codec) => lengths_by(heap, codec, &form_of(decoded, form)?),
         Stages::BytesToBytes(codec) => lengths_by(heap, codec, &length_of(decoded)?),
+        Stages::Chain(chain) => {
+            let form = chain_form(decoded, chain)?;
+            lengths_by(heap, chain.chain().stages(), &form)
+        }
     }
 }
 
@@ -173,6 +204,75 @@ fn encode_by<C: Codec>(
     Ok(Answer::Output(count))
 }
 
+// The whole encoding of a chain.
+fn encode_whole(chain: &Chain, buffers: &mut Buffers, input: &[u8]) -> Result<Answer, Trouble>
+    ensures kept { Kept buffers.old buffers.new result }
+    ensures answer { EncodesWhole chain.now.chain.stages chain.now.form input.now buffers.old buffers.new result }
+{
+    buffers.output.fill(FRESH);
+    let count = chain.encode(
+        input,
+        buffers.output.as_mut_slice(),
+        buffers.work.as_mut_slice(),
+        buffers.scratch.as_mut_slice(),
+    )?;
+    Ok(Answer::Output(count))
+}
+
+// The whole decoding, with settings.
+fn decode_with(
+    chain: &Chain,
+    settings: &Settings,
+    buffers: &mut Buffers,
+    input: &[u8],
+) -> Result<Answer, Trouble>
+    ensures kept { Kept buffers.old buffers.new result }
+    ensures answer { DecodesWhole chain.now.chain.stages chain.now.form settings.now.checks input.now buffers.old buffers.new result }
+{
+    buffers.output.fill(FRESH);
+    let count = chain.decode(
+        settings,
+        input,
+        buffers.output.as_mut_slice(),
+        buffers.work.as_mut_slice(),
+        buffers.scratch.as_mut_slice(),
+    )?;
+    Ok(Answer::Output(count))
+}
+
+// The same with checks on, or inside a lenient span.
+fn decode_whole(
+    chain: &Chain,
+    buffers: &mut Buffers,
+    checks: bool,
+    input: &[u8],
+) -> Result<Answer, Trouble>
+    ensures kept { Kept buffers.old buffers.new result }
+    ensures answer { DecodesWhole chain.now.chain.stages chain.now.form checks input.now buffers.old buffers.new result }
+{
+    let mut settings = Settings::new();
+    if checks {
+        return decode_with(chain, &settings, buffers, input);
+    }
+    let span = LenientSpan::new(&mut settings);
+    decode_with(chain, span.settings(), buffers, input)
+}
+
+fn decode(
+    stages: &Option<Stages>,
+    buffers: &mut Buffers,
+    checks: bool,
+    input: &[u8],
+) -> Result<Answer, Trouble>
+    ensures kept { Kept buffers.old buffers.new result }
+    ensures answer { Decodes stages.now checks input.now buffers.old buffers.new result }
+{
+    match chosen(stages)? {
+        Stages::Chain(chain) => decode_whole(chain, buffers, checks, input),
+        _ => Err(Trouble::Error(Complaint::NoChain)),
+    }
+}
+
 fn encode(
     stages: &Option<Stages>,
     form: &Option<Form>,
@@ -186,6 +286,7 @@ fn encode(
         Stages::ArrayToArray(codec) => encode_by(codec, &form_of(None, form)?, buffers, input),
         Stages::ArrayToBytes(codec) => encode_by(codec, &form_of(None, form)?, buffers, input),
         Stages::BytesToBytes(codec) => encode_by(codec, &input.len(), buffers, input),
+        Stages::Chain(chain) => encode_whole(chain, buffers, input),
     }
 }
 
@@ -227,6 +328,10 @@ fn undo(
             undo_by(codec, &form_of(undo.decoded, form)?, buffers, undo)
         }
         Stages::BytesToBytes(codec) => undo_by(codec, &length_of(undo.decoded)?, buffers, undo),
+        Stages::Chain(chain) => {
+            let form = chain_form(undo.decoded, chain)?;
+            undo_by(chain.chain().stages(), &form, buffers, undo)
+        }
     }
 }
 
@@ -272,6 +377,7 @@ impl Session {
                 set_form(&mut self.form, shape.as_slice(), code, fill.as_slice())
             }
             Command::Stages(run) => set_stages(&mut self.stages, &run),
+            Command::Chain(names) => set_chain(&mut self.stages, &self.form, names.as_slice()),
             Command::Singles => singles(heap, &self.stages),
             Command::Lengths(decoded) => lengths(heap, &self.stages, &self.form, decoded),
             Command::Encode(input) => {
@@ -281,6 +387,9 @@ impl Session {
                     &mut self.buffers,
                     input.as_slice(),
                 )
+            }
+            Command::Decode { checks, input } => {
+                decode(&self.stages, &mut self.buffers, checks, input.as_slice())
             }
             Command::Undo(request) => {
                 undo(&self.stages, &self.form, &mut self.buffers, &request)

@@ -27,6 +27,7 @@ pub enum Complaint {
     ByteLength,
     ArrayLength,
     NoForm,
+    NoChain,
 }
 
 impl fmt::Display for Complaint {
@@ -50,6 +51,7 @@ impl fmt::Display for Complaint {
             Complaint::ByteLength => "stages over bytes take a number for the decoded length",
             Complaint::ArrayLength => "stages over arrays take - for the decoded length",
             Complaint::NoForm => "no form yet",
+            Complaint::NoChain => "no chain yet",
         })
     }
 }

@@ -7,7 +7,9 @@ use Rattle.form.specs.Answers.{checked}
 use Rattle.stage.specs.declared.capability.PartialDecoderCapability.{PartialDecoderCapability}
 use Rattle.stage.specs.Stage.{Stage}
 use Rattle.stage.specs.Arrays.{array_bytes}
-use Rattle.stage.specs.Single.{by_parts}
+use Rattle.stage.specs.Single.{single, by_parts}
+use Rattle.pair.specs.Compose.{after}
+use Rattle.codec_chain.specs.Chain.{chain_stage}
 use Rattle.pair.specs.declared.Pair.{Pair}
 use Rattle.base_codecs.specs.declared.single.Single.{Single}
 use Rattle.base_codecs.specs.Chosen.{empty_choice}
@@ -44,6 +46,21 @@ chain_stages arrays codec bytes = record {
   outer = byte_stages bytes;
   inner = record { outer = record { codec = codec }; inner = array_stages arrays };
 }
+
+-- what the codecs in the seats mean together
+abbrev pub array_stage : ArrayStages → Stage Form Form
+array_stage s = after (chosen_array s.outer) (chosen_array s.inner)
+
+abbrev pub bytes_stage : Single BytesCodec → Stage Form ℕ
+bytes_stage s = single array_bytes (λ n. n) (byte_ordering s.codec.endian)
+
+abbrev pub byte_stage : ByteStages → Stage ℕ ℕ
+byte_stage s =
+    after (after (chosen_stage s.seats.outer.outer) (chosen_stage s.seats.outer.inner))
+    (after (chosen_stage s.seats.inner.outer) (chosen_stage s.seats.inner.inner))
+
+abbrev pub sealed_stage : Pair ByteStages (Pair (Single BytesCodec) ArrayStages) → Stage Form ℕ
+sealed_stage p = chain_stage array_stage bytes_stage byte_stage p
 
 -- what a list of codecs, the first of which encodes first, makes of a form and of bytes, and how it refuses
 module _ {C F : Type 0} (meaning : C → Stage F F) where

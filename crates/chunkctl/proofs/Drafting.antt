@@ -1,17 +1,14 @@
 -- A draft to which stages are added, and what is made of it.
-use Rattle.std.proofs.Common.{◌≡◌, ℕ, List, ◌∷◌, Some, None, Ok, Err, IfOk, Option, Result, ap}
+use Rattle.std.proofs.Common.{◌≡◌, ℕ, Some, None, Ok, Err, IfOk, Option, Result, ap}
 use Rattle.std.specs.Option.{MatchOption}
 use Rattle.std.specs.Result.{IsErrAnd, result_map_both}
 use Rattle.form.specs.declared.array_form.Form.{Form}
 use Rattle.form.specs.declared.fault.Fault.{Fault}
 use Rattle.form.specs.Answers.{Answers}
-use Rattle.bytes_codec.specs.declared.bytes_codec.Endianness.{Endianness}
 use Rattle.chain_draft.specs.declared.ChainDraft.{ChainDraft}
-use Rattle.chain_draft.specs.Draft.{bytes_refusal, BytesCodecAdded}
 use Rattle.chain_draft.specs.Seal.{seal_refusal, Seals}
-use Rattle.stage_names.specs.Names.{SaidStage, SaidBytes}
-use Rattle.stage_names.specs.Drafting.{AddedAll}
-use Rattle.chunkctl.specs.Stages.{ChainStages, chain_mean, Fits}
+use Rattle.chain_draft.specs.Seal.{sealed_stage}
+use Rattle.chunkctl.specs.Stages.{ChainStages, Fits}
 
 pub is_err : {X E : Type 0} (r : Result X E) (e : E) → IsErrAnd r (λ d. d ≡ e) → r ≡ Err e
 is_err (Ok x) e h = absurd h
@@ -20,13 +17,6 @@ is_err (Err d) e h = ap Err h
 unrefused : {X : Type 0} (o : Option ℕ) (P : X → Type 0) (A : Type 0) (B : ℕ → Type 0) (x : X) → Answers o P (Ok x) → (P x → A) → MatchOption o A B
 unrefused None P A B x a k = k a
 unrefused (Some n) P A B x a k = absurd a
-
--- the bytes codec was added, and then the stages
-pub behind : (endian : Option Endianness) (old next new : ChainDraft) (stages : List SaidStage) (r : Result (Unit {0}) Fault)
-    → Answers (bytes_refusal old) (λ (_ : Unit {0}). BytesCodecAdded endian old next) (Ok tt) → AddedAll next stages new r
-    → AddedAll old (SaidBytes endian ∷ stages) new r
-behind endian old next new stages r a h =
-    unrefused (bytes_refusal old) (λ (_ : Unit {0}). BytesCodecAdded endian old next) _ _ tt a (λ added. (next, added, h))
 
 mapped : {X Y : Type 0} (o : Option ℕ) (P : X → Type 0) (Q : Y → Type 0) (g : X → Y) (r : Result X Fault) → Answers o P r → ((x : X) → P x → Q (g x)) → Answers o Q (result_map_both g (λ e. e) r)
 mapped None P Q g (Ok x) a k = k x a
@@ -42,9 +32,9 @@ if_ok (Some n) P Q (Err e) a k = tt
 
 -- a chain c was sealed, and then fitted
 pub fits : {C F : Type 0} (stages : C → ChainStages) (chain : F → C) (P : F → Type 0) (draft : ChainDraft) (form : Form) (c : C) (r : Result F Fault)
-    → Answers (seal_refusal draft) (λ k. Seals draft (stages k) (chain_mean (stages k))) (Ok c)
-    → Answers ((chain_mean (stages c)).refusal form) P r → ((f : F) → P f → chain f ≡ c)
+    → Answers (seal_refusal draft) (λ k. Seals draft (stages k) (sealed_stage (stages k))) (Ok c)
+    → Answers ((sealed_stage (stages c)).refusal form) P r → ((f : F) → P f → chain f ≡ c)
     → Fits draft form (result_map_both (λ f. stages (chain f)) (λ e. e) r)
 fits stages chain P draft form c r a b k =
-    unrefused (seal_refusal draft) (λ k. Seals draft (stages k) (chain_mean (stages k))) _ _ c a
-    (λ seals. (stages c, seals, mapped ((chain_mean (stages c)).refusal form) P (λ q. q ≡ stages c) (λ f. stages (chain f)) r b (λ f h. ap stages (k f h))))
+    unrefused (seal_refusal draft) (λ k. Seals draft (stages k) (sealed_stage (stages k))) _ _ c a
+    (λ seals. (stages c, seals, mapped ((sealed_stage (stages c)).refusal form) P (λ q. q ≡ stages c) (λ f. stages (chain f)) r b (λ f h. ap stages (k f h))))

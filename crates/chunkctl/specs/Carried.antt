@@ -29,7 +29,8 @@ use Rattle.chunkctl.specs.declared.command.Run.{Run}
 use Rattle.chunkctl.specs.declared.command.Undo.{Undo as Undoing}
 use Rattle.chunkctl.specs.declared.stages.Stages.{Stages}
 use Rattle.chunkctl.specs.declared.stages.Stages.TheVariants.{ArrayToArray, ArrayToBytes, BytesToBytes, Chain}
-use Rattle.chunkctl.specs.Stages.{array_stage, bytes_stage, byte_stage, ChainStages, chain_mean, said, Built, Chained}
+use Rattle.chain_draft.specs.Seal.{array_stage, bytes_stage, byte_stage, sealed_stage}
+use Rattle.chunkctl.specs.Stages.{ChainStages, said, Built, Chained}
 
 -- a refusal with a number alone
 abbrev pub IsRefused : ℕ → Trouble → Type 0
@@ -114,7 +115,7 @@ IsChain p form _ = ⊥
 
 abbrev pub ChainTaken : Form → Result ChainStages Fault → Option Stages → Result Answer Trouble → Type 0
 ChainTaken form (Ok p) new r =
-    IsChain p form new × (r ≡ Ok (ChainIs (cache_index (chain_mean p).singles) ((chain_mean p).size form 0)))
+    IsChain p form new × (r ≡ Ok (ChainIs (cache_index (sealed_stage p).singles) ((sealed_stage p).size form 0)))
 ChainTaken form (Err e) new r = r ≡ Err (Refused e)
 
 abbrev pub ChainSet : List SaidStage → Option Form → Option Stages → Result Answer Trouble → Type 0
@@ -146,7 +147,7 @@ SinglesAnswer None r = r ≡ Err (Error NoStages)
 SinglesAnswer (Some (ArrayToArray s)) r = SinglesTold (array_stage s).singles r
 SinglesAnswer (Some (ArrayToBytes s)) r = SinglesTold (bytes_stage s).singles r
 SinglesAnswer (Some (BytesToBytes s)) r = SinglesTold (byte_stage s).singles r
-SinglesAnswer (Some (Chain c)) r = SinglesTold (chain_mean c.chain.stages).singles r
+SinglesAnswer (Some (Chain c)) r = SinglesTold (sealed_stage c.chain.stages).singles r
 
 -- the length at every place, unless the form is refused or there is no memory for that
 abbrev pub LengthsTold : {F G : Type 0} → Stage F G → F → Result Answer Trouble → Type 0
@@ -159,7 +160,7 @@ LengthsAnswer None form decoded r = r ≡ Err (Error NoStages)
 LengthsAnswer (Some (ArrayToArray s)) form decoded r = Decoding (form_of decoded form) (LengthsTold (array_stage s)) r
 LengthsAnswer (Some (ArrayToBytes s)) form decoded r = Decoding (form_of decoded form) (LengthsTold (bytes_stage s)) r
 LengthsAnswer (Some (BytesToBytes s)) form decoded r = Decoding (length_of decoded) (LengthsTold (byte_stage s)) r
-LengthsAnswer (Some (Chain c)) form decoded r = Decoding (form_of decoded (Some c.form)) (LengthsTold (chain_mean c.chain.stages)) r
+LengthsAnswer (Some (Chain c)) form decoded r = Decoding (form_of decoded (Some c.form)) (LengthsTold (sealed_stage c.chain.stages)) r
 
 -- what a call of the library answers, and what it leaves in an output buffer that held EE
 abbrev pub Called : Result ℕ Refusal → List ℕ → ℕ → List ℕ → Result Answer Trouble → Type 0
@@ -182,13 +183,13 @@ module _ {F G : Type 0} (weight : F → ℕ) (t : Stage F G) (f : F) where
 module _ (p : ChainStages) (f : Form) where
   abbrev pub EncodesWhole : List ℕ → Buffers → Buffers → Result Answer Trouble → Type 0
   EncodesWhole input old new r =
-      Called (encode_whole array_bytes (chain_mean p) f input (vec_len old.output) (vec_len old.work) (vec_len old.scratch))
-      ((chain_mean p).encoded f input) (vec_len old.output) (vec_items new.output) r
+      Called (encode_whole array_bytes (sealed_stage p) f input (vec_len old.output) (vec_len old.work) (vec_len old.scratch))
+      ((sealed_stage p).encoded f input) (vec_len old.output) (vec_items new.output) r
 
   abbrev pub DecodesWhole : Bool → List ℕ → Buffers → Buffers → Result Answer Trouble → Type 0
   DecodesWhole checks input old new r =
-      Called (decode_whole array_bytes (chain_mean p) f checks input (vec_len old.output) (vec_len old.work) (vec_len old.scratch))
-      (decoded (chain_mean p) f input) (vec_len old.output) (vec_items new.output) r
+      Called (decode_whole array_bytes (sealed_stage p) f checks input (vec_len old.output) (vec_len old.work) (vec_len old.scratch))
+      (decoded (sealed_stage p) f input) (vec_len old.output) (vec_items new.output) r
 
 abbrev pub Encodes : Option Stages → Option Form → List ℕ → Buffers → Buffers → Result Answer Trouble → Type 0
 Encodes None form input old new r = r ≡ Err (Error NoStages)
@@ -209,7 +210,7 @@ Undoes None form u old new r = r ≡ Err (Error NoStages)
 Undoes (Some (ArrayToArray s)) form u old new r = Decoding (form_of u.decoded form) (λ f. UndoesBy array_bytes (array_stage s) f u old new) r
 Undoes (Some (ArrayToBytes s)) form u old new r = Decoding (form_of u.decoded form) (λ f. UndoesBy array_bytes (bytes_stage s) f u old new) r
 Undoes (Some (BytesToBytes s)) form u old new r = Decoding (length_of u.decoded) (λ n. UndoesBy (λ n. n) (byte_stage s) n u old new) r
-Undoes (Some (Chain c)) form u old new r = Decoding (form_of u.decoded (Some c.form)) (λ f. UndoesBy array_bytes (chain_mean c.chain.stages) f u old new) r
+Undoes (Some (Chain c)) form u old new r = Decoding (form_of u.decoded (Some c.form)) (λ f. UndoesBy array_bytes (sealed_stage c.chain.stages) f u old new) r
 
 -- a call that is carried out or refused leaves the work buffers their lengths, and an error leaves every buffer as it was
 abbrev pub SameLengths : Buffers → Buffers → Type 0

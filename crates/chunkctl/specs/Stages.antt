@@ -1,24 +1,16 @@
 -- Stages that are named, chains of them, and what they mean.
-use Rattle.std.specs.Prelude.{◌≡◌, ℕ, List, [], ◌∷◌, map, Some, None, Ok, Err, Option, Result, vec_items}
+use Rattle.std.specs.Prelude.{◌≡◌, List, [], ◌∷◌, map, Some, None, Ok, Err, Result, vec_items}
 use Rattle.std.specs.Global.{Vec}
 use Rattle.std.specs.Option.{MatchOption}
 use Rattle.form.specs.declared.fault.Fault.{Fault}
 use Rattle.form.specs.Answers.{Answers}
 use Rattle.form.specs.declared.array_form.Form.{Form}
-use Rattle.stage.specs.Stage.{Stage}
-use Rattle.stage.specs.Arrays.{array_bytes}
-use Rattle.stage.specs.Single.{single}
-use Rattle.pair.specs.Compose.{after}
 use Rattle.pair.specs.declared.Pair.{Pair}
 use Rattle.base_codecs.specs.declared.single.Single.{Single}
-use Rattle.array_codecs.specs.Chosen.{chosen_array}
 use Rattle.bytes_codec.specs.declared.bytes_codec.BytesCodec.{BytesCodec}
-use Rattle.bytes_codec.specs.ByteOrder.{byte_ordering}
 use Rattle.chain_draft.specs.declared.ChainDraft.{ChainDraft}
 use Rattle.chain_draft.specs.declared.byte_stages.ByteStages.{ByteStages}
-use Rattle.chain_draft.specs.Stages.{byte_stages_mean}
-use Rattle.chain_draft.specs.Seal.{ArrayStages, array_stages, byte_stages, seal_refusal, Seals}
-use Rattle.codec_chain.specs.Chain.{chain_stage}
+use Rattle.chain_draft.specs.Seal.{ArrayStages, array_stages, byte_stages, sealed_stage, seal_refusal, Seals}
 use Rattle.stage_names.specs.declared.name.StageName.{StageName}
 use Rattle.stage_names.specs.Names.{SaidStage, SaidBytes, said_stage}
 use Rattle.stage_names.specs.Drafting.{AddedAll}
@@ -27,22 +19,9 @@ use Rattle.chunkctl.specs.declared.command.Run.TheVariants.{ArrayToArray as Arra
 use Rattle.chunkctl.specs.declared.stages.Stages.{Stages}
 use Rattle.chunkctl.specs.declared.stages.Stages.TheVariants.{ArrayToArray, ArrayToBytes, BytesToBytes}
 
--- what the stages mean
-abbrev pub array_stage : ArrayStages → Stage Form Form
-array_stage s = after (chosen_array s.outer) (chosen_array s.inner)
-
-abbrev pub bytes_stage : Single BytesCodec → Stage Form ℕ
-bytes_stage s = single array_bytes (λ n. n) (byte_ordering s.codec.endian)
-
-abbrev pub byte_stage : ByteStages → Stage ℕ ℕ
-byte_stage s = byte_stages_mean s
-
--- the stages of a chain, and what they mean as one
+-- the stages of a chain
 abbrev pub ChainStages : Type 0
 ChainStages = Pair ByteStages (Pair (Single BytesCodec) ArrayStages)
-
-abbrev pub chain_mean : ChainStages → Stage Form ℕ
-chain_mean p = chain_stage array_stage bytes_stage byte_stage p
 
 -- what the words say
 abbrev pub said : Vec StageName → List SaidStage
@@ -53,15 +32,14 @@ abbrev pub Blank : ChainDraft → Type 0
 Blank draft = (draft.array_to_array.items ≡ []) × (draft.array_to_bytes ≡ None) × (draft.bytes_to_bytes.items ≡ [])
 
 -- what comes of a draft that was filled, or the refusal that stopped the filling
-abbrev pub Filled : {X : Type 0} → Result (Unit {0}) Fault → (Result X Fault → Type 0) → Result X Fault → Type 0
-Filled (Ok t) P result = P result
-Filled (Err e) P result = result ≡ Err e
+abbrev pub Filled : {X : Type 0} → (ChainDraft → Result X Fault → Type 0) → Result ChainDraft Fault → Result X Fault → Type 0
+Filled P (Ok draft) result = P draft result
+Filled P (Err e) result = result ≡ Err e
 
 -- the stages are added one by one to a draft that has no codecs at first
 abbrev pub Drafted : {X : Type 0} → List SaidStage → (ChainDraft → Result X Fault → Type 0) → Result X Fault → Type 0
 Drafted stages P result =
-    (blank : ChainDraft) × (draft : ChainDraft) × (r : Result (Unit {0}) Fault)
-    × Blank blank × AddedAll blank stages draft r × Filled r (P draft) result
+    (blank : ChainDraft) × (filled : Result ChainDraft Fault) × Blank blank × AddedAll blank stages filled × Filled P filled result
 
 -- a run over arrays is what a draft has before the bytes codec, and one over bytes what it has behind a bytes codec
 abbrev pub Built : Run → Result Stages Fault → Type 0
@@ -74,7 +52,7 @@ Built (ByteNames names) result =
 abbrev pub Fits : ChainDraft → Form → Result ChainStages Fault → Type 0
 Fits draft form made =
     MatchOption (seal_refusal draft)
-    ((p : ChainStages) × Seals draft p (chain_mean p) × Answers ((chain_mean p).refusal form) (λ q. q ≡ p) made)
+    ((p : ChainStages) × Seals draft p (sealed_stage p) × Answers ((sealed_stage p).refusal form) (λ q. q ≡ p) made)
     (λ n. Answers (Some n) (λ _. ⊥) made)
 
 abbrev pub Chained : List SaidStage → Form → Result ChainStages Fault → Type 0

@@ -46,7 +46,8 @@ impl fmt::Display for Single {
     }
 }
 
-const COMMANDS: &str = " help out work peek form stages chain singles lengths encode decode undo sum data";
+const COMMANDS: &str =
+    " help out work peek form stages chain singles lengths encode decode undo sum data";
 
 // The line of an answer is pushed part by part, and is not one Display: through a formatter the digits of a large buffer take
 // eight times as long. What pushes takes the allocator, if it allocates, and the text, as std's functions do; a struct of the two

@@ -85,7 +85,10 @@ pub enum Command {
     // the decoded length, where the stages are over bytes
     Lengths(Option<usize>),
     Encode(Vec<u8>),
-    Decode { checks: bool, input: Vec<u8> },
+    Decode {
+        checks: bool,
+        input: Vec<u8>,
+    },
     Undo(Undo),
     Sum(Vec<u8>),
     Data(Vec<u8>),

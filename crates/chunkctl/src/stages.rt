@@ -31,16 +31,16 @@ pub enum Stages {
 pub fn built(run: &Run) -> Result<Stages, Fault>
     ensures { Built run.now result }
 {
-    let mut draft = ChainDraft::new();
     Ok(match run {
         Run::ArrayToArray(names) => {
-            add_stages(&mut draft, names.as_slice())?;
+            let draft = add_stages(ChainDraft::new(), names.as_slice())?;
             Stages::ArrayToArray(draft.array_stages())
         }
         Run::ArrayToBytes(endian) => Stages::ArrayToBytes(Single::new(BytesCodec::new(*endian))),
         Run::BytesToBytes(names) => {
-            draft.bytes(None)?;
-            add_stages(&mut draft, names.as_slice())?;
+            let mut behind = ChainDraft::new();
+            behind.set_bytes(None)?;
+            let draft = add_stages(behind, names.as_slice())?;
             Stages::BytesToBytes(draft.byte_stages())
         }
     })
@@ -51,7 +51,6 @@ pub fn chained(names: &[StageName], form: &Form) -> Result<Chain, Fault>
     ensures made { Chained (map said_stage names.now) form.now (result_map_both (λ f. f.chain.stages) (λ e. e) result) }
     ensures form { IfOk result (λ f. f.form ≡ form.now) }
 {
-    let mut draft = ChainDraft::new();
-    add_stages(&mut draft, names)?;
+    let draft = add_stages(ChainDraft::new(), names)?;
     draft.seal()?.fit(form)
 }

@@ -5,7 +5,7 @@ use Rattle.chunkctl.specs.declared.trouble.Trouble.TheVariants.{Refused}
 use Rattle.chunkctl.specs.declared.answer.Answer.TheVariants.{Chain as ChainIs}
 use Rattle.chunkctl.specs.declared.stages.Stages.TheVariants.{Chain}
 use Rattle.chunkctl.specs.Carried.{ChainSet}
-use Rattle.chunkctl.specs.Stages.{chain_mean}
+use Rattle.chain_draft.specs.Seal.{sealed_stage}
 use Rattle.chunkctl.proofs.Called.{form_there}
 use Rattle.chunkctl.proofs.Drafting.{is_err}
 use Rattle.chunkctl.proofs.session.set_chain.Goals as goal
@@ -24,9 +24,9 @@ returns-clause-answer c =
     let form = c.in_ok-form.form in
     let place = c.cache_index.result in
     let bytes = c.encoded_len.result in
-    let mean = chain_mean chain.chain.stages in
+    let mean = sealed_stage chain.chain.stages in
     let there = form_there c.args.form.now form c.in_ok-form.ensures in
-    let place_is : place ≡ cache_index mean.singles = c.cache_index.ensures.value ∙ ap (λ k. cache_index (chain_mean k.stages).singles) c.chain.ensures in
+    let place_is : place ≡ cache_index mean.singles = c.cache_index.ensures.value ∙ ap (λ k. cache_index (sealed_stage k.stages).singles) c.chain.ensures in
     let bytes_are : bytes ≡ mean.size form 0 = c.encoded_len.ensures ∙ ap (λ f. mean.size f 0) c.in_ok-chain.ensures.form in
     subst (λ f. ChainSet (map said_stage c.args.names.now) f (Some (Chain chain)) (Ok (ChainIs place bytes))) (sym there) (
       Ok chain.chain.stages,

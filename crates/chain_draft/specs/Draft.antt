@@ -10,6 +10,10 @@ use Rattle.bytes_codec.specs.declared.bytes_codec.Endianness.{Endianness}
 use Rattle.arrayvec.specs.ArrayVec.{ArrayVec, array_vec_len}
 use Rattle.chain_draft.specs.declared.ChainDraft.{ChainDraft}
 
+-- a draft with no codecs
+abbrev pub NoCodecs : ChainDraft → Type 0
+NoCodecs draft = (draft.array_to_array.items ≡ []) × (draft.array_to_bytes ≡ None) × (draft.bytes_to_bytes.items ≡ [])
+
 -- a list that has room for n codecs and is full is refused with 6
 abbrev pub room_refusal : {C : Type 0} → ℕ → ArrayVec C → Option ℕ → Option ℕ
 room_refusal n codecs own = checked (nat_lt (array_vec_len codecs) n) 6 own

@@ -41,7 +41,11 @@ in_seats codecs = record {
 abbrev pub byte_stages : List ByteCodec → ByteStages
 byte_stages codecs = record { seats = in_seats codecs }
 
-abbrev pub chain_stages : List ArrayCodec → BytesCodec → List ByteCodec → Pair ByteStages (Pair (Single BytesCodec) ArrayStages)
+-- the stages of a sealed chain
+abbrev pub ChainStages : Type 0
+ChainStages = Pair ByteStages (Pair (Single BytesCodec) ArrayStages)
+
+abbrev pub chain_stages : List ArrayCodec → BytesCodec → List ByteCodec → ChainStages
 chain_stages arrays codec bytes = record {
   outer = byte_stages bytes;
   inner = record { outer = record { codec = codec }; inner = array_stages arrays };
@@ -59,7 +63,7 @@ byte_stage s =
     after (after (chosen_stage s.seats.outer.outer) (chosen_stage s.seats.outer.inner))
     (after (chosen_stage s.seats.inner.outer) (chosen_stage s.seats.inner.inner))
 
-abbrev pub sealed_stage : Pair ByteStages (Pair (Single BytesCodec) ArrayStages) → Stage Form ℕ
+abbrev pub sealed_stage : ChainStages → Stage Form ℕ
 sealed_stage p = chain_stage array_stage bytes_stage byte_stage p
 
 -- what a list of codecs, the first of which encodes first, makes of a form and of bytes, and how it refuses
@@ -93,8 +97,8 @@ pub record CodesBy (arrays : List ArrayCodec) (codec : BytesCodec) (bytes : List
       ((byte_ordering codec.endian).encoded (coded_by chosen_array arrays f) (encoded_by chosen_array arrays f x))
 
 -- the chain has the draft's codecs in its seats, and codes by them
-abbrev pub Seals : ChainDraft → Pair ByteStages (Pair (Single BytesCodec) ArrayStages) → Stage Form ℕ → Type 0
-Seals draft stages t =
+abbrev pub Seals : ChainDraft → ChainStages → Type 0
+Seals draft stages =
     (codec : BytesCodec) × (draft.array_to_bytes ≡ Some codec)
     × (stages ≡ chain_stages draft.array_to_array.items codec draft.bytes_to_bytes.items)
-    × CodesBy draft.array_to_array.items codec draft.bytes_to_bytes.items t
+    × CodesBy draft.array_to_array.items codec draft.bytes_to_bytes.items (sealed_stage stages)

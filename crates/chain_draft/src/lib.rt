@@ -5,7 +5,7 @@ ghost use Rattle.std.specs.Prelude.{◌≡◌, ⊤, [], Some, None, OnErr};
 ghost use Rattle.form.specs.Answers.{Answers};
 ghost use Rattle.transpose.specs.Transpose.{order_refusal};
 ghost use Rattle.shuffle.specs.Shuffle.{size_refusal};
-ghost use Rattle.chain_draft.specs.Draft.{room_refusal, array_refusal, bytes_refusal, byte_refusal, IsTranspose, IsDifference, IsShuffle, IsFletcher32, ArrayCodecAdded, BytesCodecAdded, ByteCodecAdded};
+ghost use Rattle.chain_draft.specs.Draft.{NoCodecs, room_refusal, array_refusal, bytes_refusal, byte_refusal, IsTranspose, IsDifference, IsShuffle, IsFletcher32, ArrayCodecAdded, BytesCodecAdded, ByteCodecAdded};
 
 use array_codecs::array_codec::{self, ArrayCodec};
 use arrayvec::ArrayVec;
@@ -42,9 +42,7 @@ fn room<C, const N: usize>(codecs: &ArrayVec<C, N>) -> Result<(), Fault>
 impl ChainDraft {
     // A draft with no codecs.
     pub fn new() -> ChainDraft
-        ensures array_to_array { result.array_to_array.items ≡ [] }
-        ensures array_to_bytes { result.array_to_bytes ≡ None }
-        ensures bytes_to_bytes { result.bytes_to_bytes.items ≡ [] }
+        ensures { NoCodecs result }
     {
         ChainDraft {
             array_to_array: ArrayVec::new(),

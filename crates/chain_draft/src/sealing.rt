@@ -1,7 +1,6 @@
 // A sealed draft: its codecs in the seats of a chain.
 ghost use Rattle.std.specs.Prelude.{◌≡◌, ◌≤◌, length, get_or};
 ghost use Rattle.form.specs.Answers.{Answers};
-ghost use Rattle.codec_chain.specs.Chain.{chain_stage};
 ghost use Rattle.chain_draft.specs.Seal.{seal_refusal, array_stages, byte_stages, Seals};
 
 use crate::ChainDraft;
@@ -11,14 +10,18 @@ use base_codecs::single::Single;
 use byte_codecs::byte_codec::ByteCodec;
 use bytes_codec::bytes_codec::BytesCodec;
 use codec_chain::codec_chain::CodecChain;
+use codec_chain::fitted_chain::FittedChain;
 use form::fault::Fault;
 use pair::Pair;
-use stage::codec::Codec;
 
-// Two array codecs in their seats, and the chain of these, the bytes codec and four byte codecs.
+// Two array codecs in their seats.
 pub type ArrayStages = Pair<ArrayCodec, ArrayCodec>;
 
+// The chain of these, the bytes codec and four byte codecs.
 pub type SealedChain = CodecChain<ArrayStages, Single<BytesCodec>, ByteStages>;
+
+// Such a chain with a form.
+pub type FittedSealedChain = FittedChain<ArrayStages, Single<BytesCodec>, ByteStages>;
 
 // The codec for a seat, or the empty one where there is none.
 fn seat<C: Copy>(codecs: &[C], at: usize, empty: C) -> C
@@ -50,7 +53,7 @@ impl ChainDraft {
 
     // The chain of the draft's codecs. The draft stays as it is.
     pub fn seal(&self) -> Result<SealedChain, Fault>
-        ensures { Answers (seal_refusal self.now) (λ chain. Seals self.now chain.stages (chain_stage ⟦<ArrayStages as Codec>⟧.meaning ⟦<Single<BytesCodec> as Codec>⟧.meaning ⟦<ByteStages as Codec>⟧.meaning chain.stages)) result }
+        ensures { Answers (seal_refusal self.now) (λ chain. Seals self.now chain.stages) result }
     {
         let codec = self.array_to_bytes.ok_or(Fault::CodecOrder)?;
         let chain = CodecChain::new(self.array_stages(), Single::new(codec), self.byte_stages());

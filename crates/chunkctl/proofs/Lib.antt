@@ -1,3 +1,2 @@
 mod Called
-mod Drafting
 mod Listing

@@ -29,8 +29,9 @@ use Rattle.chunkctl.specs.declared.command.Run.{Run}
 use Rattle.chunkctl.specs.declared.command.Undo.{Undo as Undoing}
 use Rattle.chunkctl.specs.declared.stages.Stages.{Stages}
 use Rattle.chunkctl.specs.declared.stages.Stages.TheVariants.{ArrayToArray, ArrayToBytes, BytesToBytes, Chain}
-use Rattle.chain_draft.specs.Seal.{array_stage, bytes_stage, byte_stage, sealed_stage}
-use Rattle.chunkctl.specs.Stages.{ChainStages, said, Built, Chained}
+use Rattle.chain_draft.specs.Seal.{ChainStages, array_stage, bytes_stage, byte_stage, sealed_stage}
+use Rattle.stage_names.specs.Drafting.{Chained}
+use Rattle.chunkctl.specs.Stages.{said, Built}
 
 -- a refusal with a number alone
 abbrev pub IsRefused : ℕ → Trouble → Type 0

@@ -5,13 +5,15 @@ ghost use Rattle.chunkctl.specs.Carried.{NotMade, OutputSet, WorkSet, FormSet, S
 
 use crate::answer::{Answer, Single};
 use crate::command::{Command, Run, Undo};
-use crate::stages::{Chain, Stages, built, chained};
+use crate::stages::{Stages, built};
 use crate::trouble::{Complaint, Trouble};
 use buffers::Buffers;
+use chain_draft::sealing::FittedSealedChain;
 use fletcher32::fletcher32_codec::{data_before_checksum, h5_checksum_fletcher32};
 use form::array_form::Form;
 use form::settings::{LenientSpan, Settings};
 use stage::codec::Codec;
+use stage_names::drafting::chain_of;
 use stage_names::name::StageName;
 use std::alloc::{AllocError, Global};
 
@@ -93,7 +95,7 @@ fn set_chain(
     ensures same { OnErr result (stages.new ≡ stages.old) }
 {
     let form = form_of(None, form)?;
-    let chain = chained(names, &form)?;
+    let chain = chain_of(names, &form)?;
     let answer = Answer::Chain(chain.chain().cache_index(), chain.encoded_len());
     *stages = Some(Stages::Chain(chain));
     Ok(answer)
@@ -123,8 +125,8 @@ fn form_of(decoded: Option<usize>, form: &Option<Form>) -> Result<Form, Complain
     form.ok_or(Complaint::NoForm)
 }
 
-// The form that a chain is fitted to.
-fn chain_form(decoded: Option<usize>, chain: &Chain) -> Result<Form, Complaint>
+// The form that a chain is fitted to; the words have no length then.
+fn chain_form(decoded: Option<usize>, chain: &FittedSealedChain) -> Result<Form, Complaint>
     ensures { result ≡ form_of decoded (Some chain.now.form) }
 {
     form_of(decoded, &Some(*chain.form()))
@@ -205,7 +207,11 @@ fn encode_by<C: Codec>(
 }
 
 // The whole encoding of a chain.
-fn encode_whole(chain: &Chain, buffers: &mut Buffers, input: &[u8]) -> Result<Answer, Trouble>
+fn encode_whole(
+    chain: &FittedSealedChain,
+    buffers: &mut Buffers,
+    input: &[u8],
+) -> Result<Answer, Trouble>
     ensures kept { Kept buffers.old buffers.new result }
     ensures answer { EncodesWhole chain.now.chain.stages chain.now.form input.now buffers.old buffers.new result }
 {
@@ -221,7 +227,7 @@ fn encode_whole(chain: &Chain, buffers: &mut Buffers, input: &[u8]) -> Result<An
 
 // The whole decoding, with settings.
 fn decode_with(
-    chain: &Chain,
+    chain: &FittedSealedChain,
     settings: &Settings,
     buffers: &mut Buffers,
     input: &[u8],
@@ -242,7 +248,7 @@ fn decode_with(
 
 // The same with checks on, or inside a lenient span.
 fn decode_whole(
-    chain: &Chain,
+    chain: &FittedSealedChain,
     buffers: &mut Buffers,
     checks: bool,
     input: &[u8],
@@ -269,7 +275,9 @@ fn decode(
 {
     match chosen(stages)? {
         Stages::Chain(chain) => decode_whole(chain, buffers, checks, input),
-        _ => Err(Trouble::Error(Complaint::NoChain)),
+        Stages::ArrayToArray(_) | Stages::ArrayToBytes(_) | Stages::BytesToBytes(_) => {
+            Err(Trouble::Error(Complaint::NoChain))
+        }
     }
 }
 

@@ -5,15 +5,12 @@ use Rattle.form.specs.declared.array_form.Form.{Form}
 use Rattle.stage.specs.Stage.{Stage, Laws}
 use Rattle.stage.specs.Arrays.{array_bytes}
 use Rattle.pair.specs.Compose.{after}
-use Rattle.pair.specs.Composition.{after_laws, all_is, ri, size_outer, both_across, outer_length}
+use Rattle.pair.specs.Composition.{after_laws, all_is, ri, both_across, outer_length}
 use Rattle.codec_chain.specs.Whole.{decoded}
 use Rattle.codec_chain.specs.Chain.{InOrder}
 
 -- a pair is decoded by its outer half first
 module _ {F G H : Type 0} (bF : F → ℕ) (bG : G → ℕ) (bH : H → ℕ) (o : Stage G H) (i : Stage F G) (lo : Laws bG bH o) (li : Laws bF bG i) (f : F) (r : (after o i).refusal f ≡ None) (x : List ℕ) (e : length x ≡ (after o i).size f 0) where
-  outer_size : length x ≡ o.size (i.coded f) 0
-  outer_size = e ∙ size_outer bF bG bH o i lo li f r 0 (omega arith)
-
   inner_size : length (decoded o (i.coded f) x) ≡ i.size f 0
   inner_size = outer_length bF bG bH o i lo li f r 0 x (omega arith) e
 

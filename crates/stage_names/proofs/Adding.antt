@@ -14,7 +14,7 @@ stopped_by : (o : Option ℕ) (A : Type 0) (P : Unit {0} → Type 0) (e : Fault)
 stopped_by None A P e a = absurd a
 stopped_by (Some n) A P e a = a
 
-is_err : (r : Result ChainDraft Fault) (e : Fault) → IsErrAnd r (λ d. d ≡ e) → r ≡ Err e
+pub is_err : {X E : Type 0} (r : Result X E) (e : E) → IsErrAnd r (λ d. d ≡ e) → r ≡ Err e
 is_err (Ok x) e h = absurd h
 is_err (Err d) e h = ap Err h
 

@@ -1,2 +1,3 @@
 mod WordLaws
-mod Adding
+pub mod Adding
+mod Chains

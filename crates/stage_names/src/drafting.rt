@@ -1,11 +1,14 @@
 // Named stages in a draft of a chain.
-ghost use Rattle.std.specs.Prelude.{◌≡◌, map, OnErr};
+ghost use Rattle.std.specs.Prelude.{◌≡◌, map, IfOk, OnErr};
+ghost use Rattle.std.specs.Result.{result_map_both};
 ghost use Rattle.form.specs.Answers.{Answers};
 ghost use Rattle.stage_names.specs.Names.{said_array, said_byte, said_stage};
-ghost use Rattle.stage_names.specs.Drafting.{add_refusal, Added, AddedAll};
+ghost use Rattle.stage_names.specs.Drafting.{add_refusal, Added, AddedAll, Chained};
 
 use crate::name::{ArrayName, ByteName, StageName};
 use chain_draft::ChainDraft;
+use chain_draft::sealing::FittedSealedChain;
+use form::array_form::Form;
 use form::fault::Fault;
 
 impl ArrayName {
@@ -47,12 +50,20 @@ impl StageName {
 }
 
 // The draft with stages added one by one, or the first refusal.
-pub fn add_stages(draft: ChainDraft, names: &[StageName]) -> Result<ChainDraft, Fault>
+pub fn add_stages(mut draft: ChainDraft, names: &[StageName]) -> Result<ChainDraft, Fault>
     ensures { AddedAll draft (map said_stage names.now) result }
 {
-    let mut draft = draft;
     for name in names {
         name.add_to(&mut draft)?;
     }
     Ok(draft)
+}
+
+// The chain of stages, fitted to a form.
+pub fn chain_of(names: &[StageName], form: &Form) -> Result<FittedSealedChain, Fault>
+    ensures made { Chained (map said_stage names.now) form.now (result_map_both (λ f. f.chain.stages) (λ e. e) result) }
+    ensures form { IfOk result (λ f. f.form ≡ form.now) }
+{
+    let draft = add_stages(ChainDraft::new(), names)?;
+    draft.seal()?.fit(form)
 }

@@ -10,10 +10,7 @@ use base_codecs::single::Single;
 use buffers::Buffers;
 use byte_codecs::byte_codec::{self, ByteCodec};
 use bytes_codec::bytes_codec::{BytesCodec, Endianness};
-use chain_draft::ChainDraft;
-use chain_draft::byte_stages::ByteStages;
-use chain_draft::sealing::ArrayStages;
-use codec_chain::fitted_chain::FittedChain;
+use chain_draft::sealing::FittedSealedChain;
 use difference::difference_codec::DifferenceCodec;
 use fletcher32::fletcher32_codec::Fletcher32Codec;
 use form::array_form::Form;
@@ -23,11 +20,11 @@ use form::settings::Settings;
 use pair::Pair;
 use shuffle::shuffle_codec::ShuffleCodec;
 use stage::codec::Codec;
-use stage_names::drafting::add_stages;
-use stage_names::name::StageName;
+use stage_names::drafting::chain_of;
 use transpose::transpose_codec::TransposeCodec;
 
-type Chain = FittedChain<ArrayStages, Single<BytesCodec>, ByteStages>;
+// What the output is filled with before a call, so that none passes for what an earlier one left.
+const FRESH: u8 = 0xee;
 
 // Undoes all singles into the output, with checks on.
 fn undo_all<C: Codec>(
@@ -68,12 +65,6 @@ fn row_form(bytes: usize, code: usize) -> Result<Form, Fault> {
     array_form(&[bytes / size], code)
 }
 
-// The chain of the stages, with the form.
-fn chain(stages: &[StageName], form: &Form) -> Result<Chain, Fault> {
-    let draft = add_stages(ChainDraft::new(), stages)?;
-    draft.seal()?.fit(form)
-}
-
 // Whether the input is encoded to the peer's output, and this is undone to the input.
 fn both_ways<C: Codec>(buffers: &mut Buffers, vector: &Vector, codec: &C, form: &C::Decoded) -> bool
     ensures { SameLengths buffers.old buffers.new }
@@ -82,18 +73,21 @@ fn both_ways<C: Codec>(buffers: &mut Buffers, vector: &Vector, codec: &C, form: 
         return false;
     };
     let input = vector.input.as_slice();
+    buffers.output.fill(FRESH);
     let count = buffers.encode(codec, form, input);
     if !output_is(buffers, count, output.as_slice()) {
         return false;
     }
+    buffers.output.fill(FRESH);
     let count = undo_all(buffers, codec, form, output.as_slice());
     output_is(buffers, count, input)
 }
 
 // Whether the chain encodes an array to just these bytes.
-fn encodes(buffers: &mut Buffers, chain: &Chain, array: &[u8], encoded: &[u8]) -> bool
+fn encodes(buffers: &mut Buffers, chain: &FittedSealedChain, array: &[u8], encoded: &[u8]) -> bool
     ensures { SameLengths buffers.old buffers.new }
 {
+    buffers.output.fill(FRESH);
     let count = chain.encode(
         array,
         buffers.output.as_mut_slice(),
@@ -104,9 +98,16 @@ fn encodes(buffers: &mut Buffers, chain: &Chain, array: &[u8], encoded: &[u8]) -
 }
 
 // Whether the chain decodes bytes to just this array.
-fn decodes(buffers: &mut Buffers, chain: &Chain, checks: bool, encoded: &[u8], array: &[u8]) -> bool
+fn decodes(
+    buffers: &mut Buffers,
+    chain: &FittedSealedChain,
+    checks: bool,
+    encoded: &[u8],
+    array: &[u8],
+) -> bool
     ensures { SameLengths buffers.old buffers.new }
 {
+    buffers.output.fill(FRESH);
     let count = chain.decode(
         &Settings { checks },
         encoded,
@@ -117,9 +118,8 @@ fn decodes(buffers: &mut Buffers, chain: &Chain, checks: bool, encoded: &[u8], a
     output_is(buffers, count, array)
 }
 
-// Whether the chain encodes the input to the peer's output, and decodes this to the input, with checks off and with checks on.
-// The encoding stands between, so that the second decoding writes the array anew unless the encoded bytes begin with it.
-fn chain_both_ways(buffers: &mut Buffers, vector: &Vector, chain: &Chain) -> bool
+// Whether the chain encodes the input to the peer's output, and decodes this to the input, with checks on and off.
+fn chain_both_ways(buffers: &mut Buffers, vector: &Vector, chain: &FittedSealedChain) -> bool
     ensures { SameLengths buffers.old buffers.new }
 {
     let Some(output) = &vector.output else {
@@ -127,9 +127,9 @@ fn chain_both_ways(buffers: &mut Buffers, vector: &Vector, chain: &Chain) -> boo
     };
     let array = vector.input.as_slice();
     let encoded = output.as_slice();
-    decodes(buffers, chain, false, encoded, array)
-        && encodes(buffers, chain, array, encoded)
+    encodes(buffers, chain, array, encoded)
         && decodes(buffers, chain, true, encoded, array)
+        && decodes(buffers, chain, false, encoded, array)
 }
 
 // Whether the shuffle refuses the length, as the peer does.
@@ -208,14 +208,15 @@ fn run(buffers: &mut Buffers, vector: &Vector) -> Result<bool, Fault>
             },
         ) => {
             let form = array_form(shape.as_slice(), *code)?;
-            chain_both_ways(buffers, vector, &chain(stages.as_slice(), &form)?)
+            chain_both_ways(buffers, vector, &chain_of(stages.as_slice(), &form)?)
         }
         _ => false,
     };
     Ok(equal)
 }
 
-// Whether the library does what the peer does. The buffers keep their lengths for the next vector. A codec or a form that is refused agrees with nothing.
+// Whether the library does what the peer does. The buffers keep their lengths for the next vector. A codec or a form that is
+// refused agrees with nothing.
 pub fn agrees(buffers: &mut Buffers, vector: &Vector) -> bool
     ensures { SameLengths buffers.old buffers.new }
 {

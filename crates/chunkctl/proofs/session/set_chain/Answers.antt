@@ -7,7 +7,7 @@ use Rattle.chunkctl.specs.declared.stages.Stages.TheVariants.{Chain}
 use Rattle.chunkctl.specs.Carried.{ChainSet}
 use Rattle.chain_draft.specs.Seal.{sealed_stage}
 use Rattle.chunkctl.proofs.Called.{form_there}
-use Rattle.chunkctl.proofs.Drafting.{is_err}
+use Rattle.stage_names.proofs.Adding.{is_err}
 use Rattle.chunkctl.proofs.session.set_chain.Goals as goal
 
 pub returns-in_err-chain-clause-answer : goal.returns-in_err-chain-clause-answer

@@ -1,18 +1,13 @@
--- A draft to which stages are added, and what is made of it.
+-- A draft that is sealed, and the chain of it that is fitted.
 use Rattle.std.proofs.Common.{◌≡◌, ℕ, Some, None, Ok, Err, IfOk, Option, Result, ap}
 use Rattle.std.specs.Option.{MatchOption}
-use Rattle.std.specs.Result.{IsErrAnd, result_map_both}
+use Rattle.std.specs.Result.{result_map_both}
 use Rattle.form.specs.declared.array_form.Form.{Form}
 use Rattle.form.specs.declared.fault.Fault.{Fault}
 use Rattle.form.specs.Answers.{Answers}
 use Rattle.chain_draft.specs.declared.ChainDraft.{ChainDraft}
-use Rattle.chain_draft.specs.Seal.{seal_refusal, Seals}
-use Rattle.chain_draft.specs.Seal.{sealed_stage}
-use Rattle.chunkctl.specs.Stages.{ChainStages, Fits}
-
-pub is_err : {X E : Type 0} (r : Result X E) (e : E) → IsErrAnd r (λ d. d ≡ e) → r ≡ Err e
-is_err (Ok x) e h = absurd h
-is_err (Err d) e h = ap Err h
+use Rattle.chain_draft.specs.Seal.{ChainStages, sealed_stage, seal_refusal, Seals}
+use Rattle.stage_names.specs.Drafting.{Fits}
 
 unrefused : {X : Type 0} (o : Option ℕ) (P : X → Type 0) (A : Type 0) (B : ℕ → Type 0) (x : X) → Answers o P (Ok x) → (P x → A) → MatchOption o A B
 unrefused None P A B x a k = k a
@@ -32,9 +27,9 @@ if_ok (Some n) P Q (Err e) a k = tt
 
 -- a chain c was sealed, and then fitted
 pub fits : {C F : Type 0} (stages : C → ChainStages) (chain : F → C) (P : F → Type 0) (draft : ChainDraft) (form : Form) (c : C) (r : Result F Fault)
-    → Answers (seal_refusal draft) (λ k. Seals draft (stages k) (sealed_stage (stages k))) (Ok c)
+    → Answers (seal_refusal draft) (λ k. Seals draft (stages k)) (Ok c)
     → Answers ((sealed_stage (stages c)).refusal form) P r → ((f : F) → P f → chain f ≡ c)
     → Fits draft form (result_map_both (λ f. stages (chain f)) (λ e. e) r)
 fits stages chain P draft form c r a b k =
-    unrefused (seal_refusal draft) (λ k. Seals draft (stages k) (sealed_stage (stages k))) _ _ c a
+    unrefused (seal_refusal draft) (λ k. Seals draft (stages k)) _ _ c a
     (λ seals. (stages c, seals, mapped ((sealed_stage (stages c)).refusal form) P (λ q. q ≡ stages c) (λ f. stages (chain f)) r b (λ f h. ap stages (k f h))))

@@ -1,12 +1,12 @@
 use Rattle.std.proofs.Common.{◌≡◌, Ok}
-use Rattle.chunkctl.proofs.Drafting.{if_ok, fits}
-use Rattle.chunkctl.proofs.stages.chained.Goals as goal
+use Rattle.stage_names.proofs.Chains.{if_ok, fits}
+use Rattle.stage_names.proofs.drafting.chain_of.Goals as goal
 
 pub returns-clause-made : goal.returns-clause-made
 returns-clause-made c = (
   c.new.result,
   Ok c.in_ok-draft.draft,
-  (c.new.ensures.array_to_array, c.new.ensures.array_to_bytes, c.new.ensures.bytes_to_bytes),
+  c.new.ensures,
   c.in_ok-draft.ensures,
   fits (λ k. k.stages) (λ f. f.chain) _ c.in_ok-draft.draft c.args.form.now c.in_ok-seal.field-0 c.fit.result c.in_ok-seal.ensures c.fit.ensures (λ f h. h.0),
 )

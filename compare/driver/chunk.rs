@@ -1,0 +1,237 @@
+//! An open chunk: boxes and byte ranges by zarrs' decoders of parts, and by the rules from its whole decoding.
+
+use std::sync::Arc;
+
+use zarrs_codec::{
+    ArrayBytes, ArrayPartialDecoderTraits, ArraySubset, ArrayToBytesCodecTraits, BytesPartialDecoderTraits, CodecError,
+    CodecOptions, IndexerError, StoredBytes,
+};
+use zarrs_storage::byte_range::ByteRange;
+
+use crate::answer::{Answer, Outcome, caught, outcome};
+use crate::chain::Chain;
+use crate::codecs::Over;
+use crate::rules::{self, UNEXPLAINED};
+use crate::words::Stage;
+
+/// The value of a slot and its capacity.
+#[derive(Debug, Clone, Default)]
+pub struct Cell {
+    pub value: Option<Vec<u8>>,
+    pub capacity: usize,
+}
+
+impl Cell {
+    /// A slot over a buffer that begins with the bytes; the mark says how many of its first bytes are the value.
+    pub fn slot(size: usize, mark: Option<usize>, bytes: &[u8]) -> Result<Self, u8> {
+        let capacity = size.min(rules::LIMIT);
+        if mark.is_some_and(|count| count > capacity) {
+            return Err(20);
+        }
+        let value = mark.map(|count| bytes.iter().copied().chain(std::iter::repeat(0)).take(count).collect());
+        Ok(Self { value, capacity })
+    }
+}
+
+struct Opened {
+    boxes: Arc<dyn ArrayPartialDecoderTraits>,
+    ranges: Arc<dyn BytesPartialDecoderTraits>,
+}
+
+/// What a present cell means by the rules.
+struct Undone {
+    array: Vec<u8>,
+    /// The cell with all byte stages undone.
+    bytes: Vec<u8>,
+    /// The cell undone to the cache place.
+    kept: Option<Vec<u8>>,
+}
+
+/// What the chunk means by the rules, if its cell is not absent; a shut one has the number that every call gives.
+type Held = Result<Option<Undone>, u8>;
+
+pub struct Chunk {
+    chain: Chain,
+    stages: Vec<Stage>,
+    opened: Result<Opened, Outcome>,
+    held: Held,
+    pub cell: Cell,
+}
+
+fn unchecked() -> CodecOptions {
+    CodecOptions::new(false)
+}
+
+fn opened(chain: &Chain, cell: &Cell) -> Result<Opened, CodecError> {
+    let (codecs, watched) = chain.codecs.watched();
+    let form = &chain.form;
+    let boxes = Chain::of(codecs, form).chain.partial_decoder(
+        Arc::new(StoredBytes(cell.value.clone())),
+        &form.shape,
+        &form.data_type,
+        &form.fill_value,
+        &unchecked(),
+    )?;
+    let ranges = watched.input_handle().ok_or(CodecError::Other("the bytes stage is not read".to_string()))?;
+    Ok(Opened { boxes, ranges })
+}
+
+fn held(chain: &Chain, cell: &Cell, encoded: usize) -> Held {
+    if cell.capacity < encoded {
+        return Err(16);
+    }
+    let Some(value) = &cell.value else {
+        return Ok(None);
+    };
+    if value.len() != encoded {
+        return Err(13);
+    }
+    let singles = chain.codecs.capabilities().len();
+    let over = Over::Form(&chain.form);
+    let undone = |to| {
+        let undone = chain.codecs.undo(value, &over, 0, to, &unchecked());
+        undone.expect("bytes of the encoded length are decoded with checks off")
+    };
+    Ok(Some(Undone {
+        array: undone(singles),
+        bytes: undone(chain.codecs.bytes_to_bytes.len()),
+        kept: chain.place().map(undone),
+    }))
+}
+
+impl Chunk {
+    /// `encoded` is the encoded length.
+    pub fn open(chain: Chain, stages: &[Stage], cell: Cell, encoded: usize) -> Self {
+        let zarrs = caught(|| opened(&chain, &cell).map_err(|error| Outcome::refused(&error)));
+        let held = held(&chain, &cell, encoded);
+        Self { chain, stages: stages.to_vec(), opened: zarrs.and_then(|opened| opened), held, cell }
+    }
+
+    /// How many byte stages the chain has.
+    fn byte_stages(&self) -> usize {
+        self.chain.codecs.bytes_to_bytes.len()
+    }
+
+    /// zarrs keeps the array below a transposition with the shape above it.
+    fn shape_kept_is_another(&self) -> bool {
+        let Some(i) = self.chain.place().and_then(|place| self.stages.len().checked_sub(place + 1)) else {
+            return false;
+        };
+        let mut shape: Vec<u64> = self.chain.form.shape.iter().map(|length| length.get()).collect();
+        for stage in &self.stages[..i] {
+            if let Stage::Transpose(order) = stage {
+                shape = order.iter().map(|axis| shape[*axis]).collect();
+            }
+        }
+        match &self.stages[i] {
+            Stage::Transpose(order) => order.iter().enumerate().any(|(a, axis)| shape[a] != shape[*axis]),
+            _ => false,
+        }
+    }
+
+    /// The class of a difference in any call but a range read.
+    fn class(&self) -> &'static str {
+        match &self.held {
+            Err(refusal) => rules::class(*refusal),
+            Ok(_) if self.shape_kept_is_another() => "kept-shape",
+            Ok(None) if self.stages.contains(&Stage::Difference) => "absent-fill",
+            Ok(_) => UNEXPLAINED,
+        }
+    }
+
+    /// Ranges of bytes whose checksum is not kept apart from them.
+    fn range_class(&self, range: ByteRange) -> &'static str {
+        let checksum_last = self.stages.get(self.stages.len() - self.byte_stages()) == Some(&Stage::Fletcher32);
+        match range {
+            _ if self.held.is_err() || self.shape_kept_is_another() => self.class(),
+            _ if !checksum_last || self.chain.place() == Some(self.byte_stages()) => UNEXPLAINED,
+            ByteRange::Suffix(_) => "last-n",
+            ByteRange::FromStart(..) => "range-end",
+        }
+    }
+
+    pub fn answer(&self) -> Answer {
+        let zarrs = match &self.opened {
+            Ok(_) => Outcome::Done(String::new()),
+            Err(refused) => refused.clone(),
+        };
+        let ruled = match &self.held {
+            Ok(_) => Outcome::Done(String::new()),
+            Err(refusal) => Outcome::Refused(*refusal),
+        };
+        Answer::of(zarrs, ruled, self.class())
+    }
+
+    fn by_zarrs(&self, call: impl FnOnce(&Opened) -> Outcome) -> Outcome {
+        match &self.opened {
+            Ok(opened) => outcome(|| call(opened)),
+            Err(refused) => refused.clone(),
+        }
+    }
+
+    /// What is kept. Of what zarrs keeps, only the size is to be seen.
+    pub fn kept(&self) -> Answer {
+        let (size, ruled) = match (&self.held, self.chain.place()) {
+            (Err(refusal), _) => (0, Outcome::Refused(*refusal)),
+            (Ok(_), None) => (0, Outcome::Done("none".to_string())),
+            (Ok(None), Some(_)) => (0, Outcome::Done("absent".to_string())),
+            (Ok(Some(undone)), Some(_)) => {
+                let kept = undone.kept.as_deref().unwrap_or_default();
+                (kept.len(), Outcome::bytes(kept))
+            }
+        };
+        let zarrs = self.by_zarrs(|opened| match (opened.boxes.size_held(), opened.boxes.exists()) {
+            (held, Ok(exists)) if held == size && exists == self.cell.value.is_some() && self.held.is_ok() => {
+                ruled.clone()
+            }
+            (held, Ok(exists)) => Outcome::Done(format!("holding {held} bytes, exists {exists}")),
+            (_, Err(error)) => Outcome::refused(&error.into()),
+        });
+        let class = match &self.held {
+            Ok(None) if self.opened.is_ok() => "absent-kept",
+            _ => self.class(),
+        };
+        Answer::of(zarrs, ruled, class)
+    }
+
+    pub fn box_read(&self, start: &[u64], lengths: &[u64]) -> Answer {
+        let subset = ArraySubset::new_with_start_shape(start.to_vec(), lengths.to_vec());
+        let zarrs = self.by_zarrs(|opened| {
+            let subset = match &subset {
+                Ok(subset) => subset,
+                Err(error) => return Outcome::refused(&error.clone().into()),
+            };
+            let part = opened.boxes.partial_decode(subset, &unchecked());
+            Outcome::of(part.and_then(|part| Ok(part.into_fixed()?.into_owned())))
+        });
+        let ruled = match (&self.held, &subset) {
+            (Err(refusal), _) => Outcome::Refused(*refusal),
+            (Ok(_), Err(IndexerError::Dimensionality(..) | IndexerError::OutOfBounds)) => Outcome::Refused(17),
+            (Ok(held), Ok(subset)) => {
+                let array = held.as_ref().map_or_else(|| self.chain.fill(), |undone| undone.array.clone());
+                let form = &self.chain.form;
+                let shape: Vec<u64> = form.shape.iter().map(|length| length.get()).collect();
+                let part = ArrayBytes::from(array).extract_array_subset(subset, &shape, &form.data_type);
+                Outcome::of(part.and_then(|part| Ok(part.into_fixed()?.into_owned())))
+            }
+        };
+        Answer::of(zarrs, ruled, self.class())
+    }
+
+    pub fn range_read(&self, range: ByteRange) -> Answer {
+        let zarrs = self.by_zarrs(|opened| match opened.ranges.partial_decode(range, &unchecked()) {
+            Ok(Some(part)) => Outcome::bytes(&part),
+            Ok(None) => Outcome::Refused(19),
+            Err(error) => Outcome::refused(&error),
+        });
+        let ruled = match &self.held {
+            Err(refusal) => Outcome::Refused(*refusal),
+            Ok(None) => Outcome::Refused(19),
+            Ok(Some(Undone { bytes, .. })) => match range.of(bytes.len()) {
+                Ok(part) => Outcome::bytes(&bytes[part]),
+                Err(_) => Outcome::Refused(18),
+            },
+        };
+        Answer::of(zarrs, ruled, self.range_class(range))
+    }
+}

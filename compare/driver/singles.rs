@@ -1,0 +1,226 @@
+//! zarrs' cache place for codecs of any capabilities, beside the least place that meets the rule.
+
+use std::any::Any;
+use std::borrow::Cow;
+use std::num::NonZeroU64;
+use std::sync::Arc;
+
+use zarrs::array::codec::array_to_bytes::codec_chain::CodecChain;
+use zarrs_codec::{
+    ArrayBytes, ArrayBytesRaw, ArrayCodecTraits, ArrayPartialDecoderTraits, ArrayPartialEncoderTraits,
+    ArrayToArrayCodecTraits, ArrayToBytesCodecTraits, BytesPartialDecoderTraits, BytesPartialEncoderTraits,
+    BytesRepresentation, BytesToBytesCodecTraits, ChunkShape, CodecError, CodecMetadataOptions, CodecOptions,
+    CodecTraits, DataType, FillValue, PartialDecoderCapability, PartialEncoderCapability, RecommendedConcurrency,
+};
+use zarrs_metadata::Configuration;
+use zarrs_plugin::{ExtensionName, ZarrVersion};
+
+use crate::answer::{Answer, Outcome};
+use crate::chain;
+use crate::rules::{self, UNEXPLAINED};
+use crate::words::Error;
+
+/// A codec of any kind that codes nothing and has the capabilities.
+#[derive(Debug, Clone, Copy)]
+struct Single(PartialDecoderCapability);
+
+fn singles(word: &str) -> Result<Vec<Single>, Error> {
+    let yes = |word: &str| match word {
+        "yes" => Ok(true),
+        "no" => Ok(false),
+        _ => Err("neither yes nor no"),
+    };
+    let single = |word: &str| {
+        let (read, decode) = word.split_once('/').ok_or("no single")?;
+        Ok(Single(PartialDecoderCapability { partial_read: yes(read)?, partial_decode: yes(decode)? }))
+    };
+    if word == "-" { Ok(vec![]) } else { word.split(',').map(single).collect() }
+}
+
+/// The singles of the byte codecs, of the codec from arrays to bytes and of the array codecs, in decode order.
+pub fn cache(bytes: &str, middle: &str, arrays: &str) -> Result<Answer, Error> {
+    let (bytes, middle, arrays) = (singles(bytes)?, singles(middle)?, singles(arrays)?);
+    let [single] = middle.as_slice() else {
+        return Err("one codec from arrays to bytes is wanted");
+    };
+    let chain = CodecChain::new(
+        arrays.iter().rev().map(|single| Arc::new(*single) as Arc<dyn ArrayToArrayCodecTraits>).collect(),
+        Arc::new(*single),
+        bytes.iter().rev().map(|single| Arc::new(*single) as Arc<dyn BytesToBytesCodecTraits>).collect(),
+    );
+    let all = [bytes, middle, arrays].concat();
+    let capabilities: Vec<_> = all.iter().map(|single| (single.0.partial_read, single.0.partial_decode)).collect();
+    let shown = |place: Option<usize>| Outcome::Done(place.map_or("none".to_string(), |place| place.to_string()));
+    Ok(Answer::of(shown(chain::cache_index(&chain)), shown(rules::cache_place(&capabilities)), UNEXPLAINED))
+}
+
+fn nothing<T>() -> Result<T, CodecError> {
+    Err(CodecError::Other("this codec codes nothing".to_string()))
+}
+
+impl ExtensionName for Single {
+    fn name(&self, _version: ZarrVersion) -> Option<Cow<'static, str>> {
+        None
+    }
+}
+
+impl CodecTraits for Single {
+    fn as_any(&self) -> &dyn Any {
+        self
+    }
+
+    fn configuration(&self, _version: ZarrVersion, _options: &CodecMetadataOptions) -> Option<Configuration> {
+        None
+    }
+
+    fn partial_decoder_capability(&self) -> PartialDecoderCapability {
+        self.0
+    }
+
+    fn partial_encoder_capability(&self) -> PartialEncoderCapability {
+        PartialEncoderCapability { partial_encode: false }
+    }
+}
+
+impl ArrayCodecTraits for Single {
+    fn recommended_concurrency(
+        &self,
+        _shape: &[NonZeroU64],
+        _data_type: &DataType,
+    ) -> Result<RecommendedConcurrency, CodecError> {
+        nothing()
+    }
+}
+
+impl ArrayToArrayCodecTraits for Single {
+    fn into_dyn(self: Arc<Self>) -> Arc<dyn ArrayToArrayCodecTraits> {
+        self
+    }
+
+    fn encoded_shape(&self, _shape: &[NonZeroU64]) -> Result<ChunkShape, CodecError> {
+        nothing()
+    }
+
+    fn encoded_data_type(&self, _data_type: &DataType) -> Result<DataType, CodecError> {
+        nothing()
+    }
+
+    fn encoded_fill_value(&self, _data_type: &DataType, _fill_value: &FillValue) -> Result<FillValue, CodecError> {
+        nothing()
+    }
+
+    fn encode<'a>(
+        &self,
+        _bytes: ArrayBytes<'a>,
+        _shape: &[NonZeroU64],
+        _data_type: &DataType,
+        _fill_value: &FillValue,
+        _options: &CodecOptions,
+    ) -> Result<ArrayBytes<'a>, CodecError> {
+        nothing()
+    }
+
+    fn decode<'a>(
+        &self,
+        _bytes: ArrayBytes<'a>,
+        _shape: &[NonZeroU64],
+        _data_type: &DataType,
+        _fill_value: &FillValue,
+        _options: &CodecOptions,
+    ) -> Result<ArrayBytes<'a>, CodecError> {
+        nothing()
+    }
+}
+
+impl ArrayToBytesCodecTraits for Single {
+    fn into_dyn(self: Arc<Self>) -> Arc<dyn ArrayToBytesCodecTraits> {
+        self
+    }
+
+    fn encoded_representation(
+        &self,
+        _shape: &[NonZeroU64],
+        _data_type: &DataType,
+        _fill_value: &FillValue,
+    ) -> Result<BytesRepresentation, CodecError> {
+        nothing()
+    }
+
+    fn encode<'a>(
+        &self,
+        _bytes: ArrayBytes<'a>,
+        _shape: &[NonZeroU64],
+        _data_type: &DataType,
+        _fill_value: &FillValue,
+        _options: &CodecOptions,
+    ) -> Result<ArrayBytesRaw<'a>, CodecError> {
+        nothing()
+    }
+
+    fn decode<'a>(
+        &self,
+        _bytes: ArrayBytesRaw<'a>,
+        _shape: &[NonZeroU64],
+        _data_type: &DataType,
+        _fill_value: &FillValue,
+        _options: &CodecOptions,
+    ) -> Result<ArrayBytes<'a>, CodecError> {
+        nothing()
+    }
+
+    fn partial_decoder(
+        self: Arc<Self>,
+        _input_handle: Arc<dyn BytesPartialDecoderTraits>,
+        _shape: &[NonZeroU64],
+        _data_type: &DataType,
+        _fill_value: &FillValue,
+        _options: &CodecOptions,
+    ) -> Result<Arc<dyn ArrayPartialDecoderTraits>, CodecError> {
+        nothing()
+    }
+
+    fn partial_encoder(
+        self: Arc<Self>,
+        _input_output_handle: Arc<dyn BytesPartialEncoderTraits>,
+        _shape: &[NonZeroU64],
+        _data_type: &DataType,
+        _fill_value: &FillValue,
+        _options: &CodecOptions,
+    ) -> Result<Arc<dyn ArrayPartialEncoderTraits>, CodecError> {
+        nothing()
+    }
+}
+
+impl BytesToBytesCodecTraits for Single {
+    fn into_dyn(self: Arc<Self>) -> Arc<dyn BytesToBytesCodecTraits> {
+        self
+    }
+
+    fn recommended_concurrency(
+        &self,
+        _decoded_representation: &BytesRepresentation,
+    ) -> Result<RecommendedConcurrency, CodecError> {
+        nothing()
+    }
+
+    fn encoded_representation(&self, decoded_representation: &BytesRepresentation) -> BytesRepresentation {
+        *decoded_representation
+    }
+
+    fn encode<'a>(
+        &self,
+        _decoded_value: ArrayBytesRaw<'a>,
+        _options: &CodecOptions,
+    ) -> Result<ArrayBytesRaw<'a>, CodecError> {
+        nothing()
+    }
+
+    fn decode<'a>(
+        &self,
+        _encoded_value: ArrayBytesRaw<'a>,
+        _decoded_representation: &BytesRepresentation,
+        _options: &CodecOptions,
+    ) -> Result<ArrayBytesRaw<'a>, CodecError> {
+        nothing()
+    }
+}

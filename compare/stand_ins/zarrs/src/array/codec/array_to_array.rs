@@ -1,0 +1,4 @@
+//! The codecs from arrays to arrays, whose own files are not here.
+
+pub mod difference;
+pub mod transpose;

@@ -1,0 +1,3 @@
+//! The modules in which zarrs' own files stand.
+
+pub mod array;

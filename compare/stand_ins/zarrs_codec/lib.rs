@@ -1,0 +1,29 @@
+//! Stands in for the crate `zarrs_codec`: what codecs are, the arrays that they code, and the decoders of parts that a codec
+//! has when it brings none of its own. An array's bytes and its shape are checked, and boxes and byte ranges are taken out,
+//! as docs/RULES.md says.
+
+mod array_bytes;
+mod codec;
+mod error;
+mod indexer;
+mod options;
+mod partial;
+mod plugin;
+mod representation;
+
+pub use array_bytes::{
+    ArrayBytes, ArrayBytesDecodeIntoTarget, ArrayBytesRaw, decode_into_array_bytes_target, update_array_bytes,
+};
+pub use codec::{
+    ArrayCodecTraits, ArrayToArrayCodecTraits, ArrayToBytesCodecTraits, BytesToBytesCodecTraits, CodecTraits,
+    PartialDecoderCapability, PartialEncoderCapability, RecommendedConcurrency,
+};
+pub use error::CodecError;
+pub use indexer::{ArraySubset, Indexer, IndexerError};
+pub use options::{CodecMetadataOptions, CodecOptions, CodecSpecificOptions};
+pub use partial::{
+    ArrayPartialDecoderTraits, ArrayPartialEncoderTraits, BytesPartialDecoderTraits, BytesPartialEncoderTraits,
+    StoredBytes,
+};
+pub use plugin::{Codec, CodecPluginV2, CodecPluginV3, CodecTraitsV2, CodecTraitsV3, register};
+pub use representation::{BytesRepresentation, ChunkShape, ChunkShapeTraits, DataType, DataTypeSize, FillValue};

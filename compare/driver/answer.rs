@@ -66,7 +66,6 @@ impl Outcome {
     pub fn refused(error: &CodecError) -> Self {
         match error {
             CodecError::UnsupportedDataType(..) => Self::Refused(2),
-            CodecError::FillValue => Self::Refused(4),
             CodecError::Dimensions => Self::Refused(9),
             CodecError::NoEndianness => Self::Refused(10),
             CodecError::Other(text) if text.starts_with("the shuffle codec expects") => Self::Refused(11),
@@ -75,7 +74,9 @@ impl Outcome {
             CodecError::InvalidChecksum => Self::Refused(15),
             CodecError::IndexerError(_) => Self::Refused(17),
             CodecError::InvalidByteRangeError(_) => Self::Refused(18),
-            CodecError::StorageError(_) | CodecError::Other(_) => Self::Fails(error.to_string()),
+            CodecError::FillValue | CodecError::StorageError(_) | CodecError::Other(_) => {
+                Self::Fails(error.to_string())
+            }
         }
     }
 }

@@ -36,6 +36,7 @@ impl Cell {
 struct Opened {
     boxes: Arc<dyn ArrayPartialDecoderTraits>,
     ranges: Arc<dyn BytesPartialDecoderTraits>,
+    options: CodecOptions,
 }
 
 /// What a present cell means by the rules.
@@ -47,22 +48,20 @@ struct Undone {
     kept: Option<Vec<u8>>,
 }
 
-/// What the chunk means by the rules, if its cell is not absent; a shut one has the number that every call gives.
+/// What the chunk is by the rules: the refusal of opening, which every later call gives too, or what its cell means, if it is
+/// not absent.
 type Held = Result<Option<Undone>, u8>;
 
 pub struct Chunk {
     chain: Chain,
     stages: Vec<Stage>,
-    opened: Result<Opened, Outcome>,
+    /// By zarrs, with checks off and on.
+    opened: [Result<Opened, Outcome>; 2],
     held: Held,
     pub cell: Cell,
 }
 
-fn unchecked() -> CodecOptions {
-    CodecOptions::new(false)
-}
-
-fn opened(chain: &Chain, cell: &Cell) -> Result<Opened, CodecError> {
+fn opened(chain: &Chain, cell: &Cell, options: CodecOptions) -> Result<Opened, CodecError> {
     let (codecs, watched) = chain.codecs.watched();
     let form = &chain.form;
     let boxes = Chain::of(codecs, form).chain.partial_decoder(
@@ -70,10 +69,10 @@ fn opened(chain: &Chain, cell: &Cell) -> Result<Opened, CodecError> {
         &form.shape,
         &form.data_type,
         &form.fill_value,
-        &unchecked(),
+        &options,
     )?;
     let ranges = watched.input_handle().ok_or(CodecError::Other("the bytes stage is not read".to_string()))?;
-    Ok(Opened { boxes, ranges })
+    Ok(Opened { boxes, ranges, options })
 }
 
 fn held(chain: &Chain, cell: &Cell, encoded: usize) -> Held {
@@ -89,7 +88,7 @@ fn held(chain: &Chain, cell: &Cell, encoded: usize) -> Held {
     let singles = chain.codecs.capabilities().len();
     let over = Over::Form(&chain.form);
     let undone = |to| {
-        let undone = chain.codecs.undo(value, &over, 0, to, &unchecked());
+        let undone = chain.codecs.undo(value, &over, 0, to, &CodecOptions::new(false));
         undone.expect("bytes of the encoded length are decoded with checks off")
     };
     Ok(Some(Undone {
@@ -102,9 +101,12 @@ fn held(chain: &Chain, cell: &Cell, encoded: usize) -> Held {
 impl Chunk {
     /// `encoded` is the encoded length.
     pub fn open(chain: Chain, stages: &[Stage], cell: Cell, encoded: usize) -> Self {
-        let zarrs = caught(|| opened(&chain, &cell).map_err(|error| Outcome::refused(&error)));
+        let opened = [false, true].map(|checks| {
+            let opened = caught(|| opened(&chain, &cell, CodecOptions::new(checks)));
+            opened.and_then(|opened| opened.map_err(|error| Outcome::refused(&error)))
+        });
         let held = held(&chain, &cell, encoded);
-        Self { chain, stages: stages.to_vec(), opened: zarrs.and_then(|opened| opened), held, cell }
+        Self { chain, stages: stages.to_vec(), opened, held, cell }
     }
 
     /// How many byte stages the chain has.
@@ -139,7 +141,7 @@ impl Chunk {
         }
     }
 
-    /// Ranges of bytes whose checksum is not kept apart from them.
+    /// The class of a difference in a range read. zarrs reads the checksum as data where the bytes before it are not kept.
     fn range_class(&self, range: ByteRange) -> &'static str {
         let checksum_last = self.stages.get(self.stages.len() - self.byte_stages()) == Some(&Stage::Fletcher32);
         match range {
@@ -150,23 +152,24 @@ impl Chunk {
         }
     }
 
+    /// The answer to opening.
     pub fn answer(&self) -> Answer {
-        let zarrs = match &self.opened {
-            Ok(_) => Outcome::Done(String::new()),
-            Err(refused) => refused.clone(),
-        };
+        let done = Outcome::Done(String::new());
+        let zarrs = self.by_zarrs(|_| done.clone());
         let ruled = match &self.held {
-            Ok(_) => Outcome::Done(String::new()),
+            Ok(_) => done,
             Err(refusal) => Outcome::Refused(*refusal),
         };
         Answer::of(zarrs, ruled, self.class())
     }
 
-    fn by_zarrs(&self, call: impl FnOnce(&Opened) -> Outcome) -> Outcome {
-        match &self.opened {
+    /// What zarrs gives, which with checks off and on must be the same.
+    fn by_zarrs(&self, call: impl Fn(&Opened) -> Outcome) -> Outcome {
+        let [off, on] = self.opened.each_ref().map(|opened| match opened {
             Ok(opened) => outcome(|| call(opened)),
             Err(refused) => refused.clone(),
-        }
+        });
+        if off == on { off } else { Outcome::Fails(format!("{off} with checks off, {on} with checks on")) }
     }
 
     /// What is kept. Of what zarrs keeps, only the size is to be seen.
@@ -188,7 +191,7 @@ impl Chunk {
             (_, Err(error)) => Outcome::refused(&error.into()),
         });
         let class = match &self.held {
-            Ok(None) if self.opened.is_ok() => "absent-kept",
+            Ok(None) if !self.shape_kept_is_another() => "absent-kept",
             _ => self.class(),
         };
         Answer::of(zarrs, ruled, class)
@@ -201,7 +204,7 @@ impl Chunk {
                 Ok(subset) => subset,
                 Err(error) => return Outcome::refused(&error.clone().into()),
             };
-            let part = opened.boxes.partial_decode(subset, &unchecked());
+            let part = opened.boxes.partial_decode(subset, &opened.options);
             Outcome::of(part.and_then(|part| Ok(part.into_fixed()?.into_owned())))
         });
         let ruled = match (&self.held, &subset) {
@@ -219,7 +222,7 @@ impl Chunk {
     }
 
     pub fn range_read(&self, range: ByteRange) -> Answer {
-        let zarrs = self.by_zarrs(|opened| match opened.ranges.partial_decode(range, &unchecked()) {
+        let zarrs = self.by_zarrs(|opened| match opened.ranges.partial_decode(range, &opened.options) {
             Ok(Some(part)) => Outcome::bytes(&part),
             Ok(None) => Outcome::Refused(19),
             Err(error) => Outcome::refused(&error),

@@ -95,28 +95,30 @@ impl Generator<'_> {
         Ok(matches!(self.ask(command)?.by_rules(), Outcome::Done(_)))
     }
 
-    /// One to four lengths whose product is at most the count, often all of it.
-    fn shape(&mut self, count: usize) -> Vec<usize> {
-        let dimensions = self.numbers.from_to(1, 4);
-        let mut shape = vec![1; dimensions];
+    /// One to four lengths whose product is at most the count, often all of it; all of them odd if that is wanted.
+    fn shape(&mut self, count: usize, odd: bool) -> Vec<usize> {
+        let taken = |length: usize| if odd && length % 2 == 0 { length - 1 } else { length };
+        let mut shape = vec![1; self.numbers.from_to(1, 4)];
         let mut left = count;
         for length in &mut shape {
-            *length = self.numbers.spread(left.min(1 + left / 2).max(1));
+            *length = taken(self.numbers.spread(1 + left / 2));
             left /= *length;
         }
         if !self.numbers.once_in(4) {
-            let last = self.numbers.below(dimensions);
-            shape[last] *= left;
+            let axis = self.numbers.below(shape.len());
+            shape[axis] *= taken(left);
         }
         shape
     }
 
-    /// Asks for a form that is taken.
+    /// Asks for a form that is taken. Only elements of one byte make an odd number of bytes, so they come more often.
     fn form(&mut self) -> io::Result<Shaped> {
-        let (name, size) = self.numbers.one_of(&TYPES);
+        let types = if self.numbers.once_in(3) { &TYPES[..2] } else { &TYPES };
+        let (name, size) = self.numbers.one_of(types);
         let most = self.bytes / size;
         let count = if self.numbers.once_in(8) { most } else { self.numbers.spread(most) };
-        let shape = self.shape(count);
+        let odd = self.numbers.once_in(2);
+        let shape = self.shape(count, odd);
         let fill = match self.numbers.below(3) {
             0 => vec![0; size],
             _ => self.numbers.bytes(size),
@@ -277,10 +279,8 @@ impl Generator<'_> {
             self.ask(&format!("lengths {other}"))?;
         }
         let decoded = self.numbers.bytes(length);
-        if let Some(encoded) = self.ask_bytes(&format!("encode {}", words::hex(&decoded)))? {
-            self.undo(&length.to_string(), stages.len(), &encoded)?;
-        }
-        Ok(())
+        let encoded = self.ask_bytes(&format!("encode {}", words::hex(&decoded)))?;
+        self.undo(&length.to_string(), stages.len(), &encoded.unwrap_or(decoded))
     }
 
     fn array_run_case(&mut self) -> io::Result<()> {
@@ -300,10 +300,8 @@ impl Generator<'_> {
             self.ask("lengths -")?;
         }
         let array = self.numbers.bytes(form.bytes());
-        if let Some(encoded) = self.ask_bytes(&format!("encode {}", words::hex(&array)))? {
-            self.undo("-", stages.len(), &encoded)?;
-        }
-        Ok(())
+        let encoded = self.ask_bytes(&format!("encode {}", words::hex(&array)))?;
+        self.undo("-", stages.len(), &encoded.unwrap_or(array))
     }
 
     /// Forms at and past their limits.
@@ -318,7 +316,11 @@ impl Generator<'_> {
         };
         let name = if self.numbers.once_in(10) { self.numbers.one_of(&["string", "optional"]) } else { name };
         let fill = self.numbers.bytes(size);
-        self.ask(&format!("form {} {name} {}", joined(&shape, "x"), words::hex(&fill)))?;
+        let command = format!("form {} {name} {}", joined(&shape, "x"), words::hex(&fill));
+        // zarrs is not asked everything past 64 bits
+        if self.session.command(&command).is_ok() {
+            self.ask(&command)?;
+        }
         Ok(())
     }
 
@@ -417,31 +419,31 @@ impl Generator<'_> {
         Ok(())
     }
 
-    /// A box: the whole, an empty one, one at an edge, one past it, one of other dimensions, or any.
+    /// A box: the whole, one at the edge, an empty one, one past the edge, one of other dimensions, or any.
     fn box_read(&mut self, form: &Shaped) -> io::Result<()> {
+        let kind = self.numbers.below(10);
         let mut start = Vec::new();
         let mut lengths = Vec::new();
-        let kind = self.numbers.below(8);
         for dimension in &form.shape {
-            let from = self.numbers.below(dimension + 1);
-            let (from, length) = match kind {
-                0 => (0, *dimension),
-                1 => (from, dimension - from),
-                2 if self.numbers.once_in(2) => (from, 0),
-                _ => (from, self.numbers.below(dimension - from + 1)),
-            };
+            let from = if kind == 0 { 0 } else { self.numbers.below(*dimension) };
+            let rest = dimension - from;
             start.push(from);
-            lengths.push(length);
+            lengths.push(if kind <= 1 { rest } else { self.numbers.from_to(1, rest) });
         }
         let axis = self.numbers.below(form.shape.len());
         match kind {
+            2 => {
+                start[axis] = self.numbers.from_to(0, form.shape[axis]);
+                lengths[axis] = 0;
+            }
             3 => lengths[axis] = form.shape[axis] - start[axis] + 1,
             4 if self.numbers.once_in(2) => start[axis] = usize::MAX - self.numbers.below(2),
+            4 => lengths[axis] = usize::MAX - self.numbers.below(2),
             5 if self.numbers.once_in(2) => {
                 start.push(0);
                 lengths.push(1);
             }
-            6 if self.numbers.once_in(4) => {
+            5 => {
                 lengths.pop();
             }
             _ => {}

@@ -1,7 +1,8 @@
 //! Answers the commands of the line tool with zarrs, and makes up commands to ask both.
 //!
 //! `driver answer` reads commands on standard input; `driver generate SEED COUNT BYTES` makes up at least COUNT commands,
-//! over arrays of up to BYTES bytes. Both print each command after `> `, and on the next line what zarrs answers. Where the
+//! over arrays of up to BYTES bytes; `driver cache` holds the cache places of all lists of singles against the rule. The first
+//! two print each command after `> `, and on the next line what zarrs answers. Where the
 //! rules have another answer, ` | `, the class of the difference and the answer by the rules follow on that line.
 
 mod answer;
@@ -22,7 +23,7 @@ use std::process::ExitCode;
 
 use session::Session;
 
-const USAGE: &str = "usage: driver answer < COMMANDS, or driver generate SEED COUNT BYTES";
+const USAGE: &str = "usage: driver answer < COMMANDS, driver generate SEED COUNT BYTES, or driver cache";
 
 fn answer_all(out: &mut dyn Write) -> io::Result<()> {
     let mut session = Session::default();
@@ -43,6 +44,7 @@ fn main() -> ExitCode {
     let mut out = BufWriter::new(io::stdout().lock());
     let done = match arguments.as_slice() {
         ["answer"] => answer_all(&mut out),
+        ["cache"] => singles::cache_all(&mut out),
         ["generate", seed, count, bytes] => match (seed.parse(), count.parse(), bytes.parse()) {
             (Ok(seed), Ok(count), Ok(bytes)) => generate::generate(seed, count, bytes, &mut out),
             _ => Err(io::Error::other(USAGE)),

@@ -20,8 +20,11 @@ use crate::rules;
 use crate::singles;
 use crate::words::{self, Error, Stage};
 
-/// A difference that is none but that of the last odd byte.
+/// The class of the last odd byte that is not summed.
 const ODD_BYTE: &str = "odd-byte";
+
+/// The class of products and sums that pass 64 bits.
+const OVERFLOW: &str = "overflow";
 
 /// The stages of a run or a chain; of a chain, also zarrs' chain and the form that it is fitted to.
 #[derive(Clone)]
@@ -96,16 +99,22 @@ impl Session {
             None if data_type == "optional" || data_type == "12" => DataType::Optional,
             None => DataType::String,
         };
-        let zarrs = outcome(|| form_by_zarrs(&lengths, &data_type, &fill));
-        if let (Ok(bytes), Some((size, _))) = (ruled, size) {
-            let shape = lengths.iter().map(|length| NonZeroU64::new(*length).expect("no length is 0")).collect();
-            self.form = Some(Form { shape, data_type, fill_value: FillValue::from(fill), size, bytes });
-            return Ok(Answer::same(zarrs));
+        let zarrs = form_by_zarrs(&lengths, &data_type)?;
+        match (ruled, size) {
+            (Ok(bytes), Some((size, _))) => {
+                let shape = lengths.iter().map(|length| NonZeroU64::new(*length).expect("no length is 0")).collect();
+                self.form = Some(Form { shape, data_type, fill_value: FillValue::from(fill), size, bytes });
+                Ok(Answer::same(zarrs))
+            }
+            // zarrs does not check it in the files that are here
+            (Err(4), _) => Ok(Answer::same(Outcome::Refused(4))),
+            (Err(refusal), _) => {
+                let overflows = passes_64_bits(&lengths, size.map_or(1, |(size, _)| size));
+                let class = if overflows { OVERFLOW } else { rules::class(refusal) };
+                Ok(Answer::of(zarrs, Outcome::Refused(refusal), class))
+            }
+            (Ok(_), None) => Err("no form has a type of no size"),
         }
-        let refusal = ruled.expect_err("a form of a known size");
-        let class =
-            if passes_64_bits(&lengths, size.map_or(1, |(size, _)| size)) { "overflow" } else { rules::class(refusal) };
-        Ok(Answer::of(zarrs, Outcome::Refused(refusal), class))
     }
 
     fn run(&mut self, stages: Vec<Stage>) -> Result<Answer, Error> {
@@ -135,7 +144,7 @@ impl Session {
 
     fn chain(&mut self, stages: Vec<Stage>) -> Result<Answer, Error> {
         let form = self.form.clone().ok_or("no form")?;
-        let refused = rules::draft(&stages).and_then(|()| lengths(&stages, &form)).err();
+        let refused = rules::draft(&stages).and_then(|()| lengths_of_form(&stages, &form)).err();
         let chain = chain::made(&stages, &form);
         let zarrs = match &chain {
             Ok(chain) => outcome(|| chain.fitted()),
@@ -185,12 +194,12 @@ impl Session {
             Ok(lengths) => Outcome::Done(joined(&lengths)),
             Err(error) => Outcome::refused(&error),
         });
-        Ok(match stages.lengths(&over) {
+        Ok(match stages.lengths_by_rules(&over) {
             Ok(_) => Answer::same(zarrs),
-            Err(refusal) if length.parse().is_ok_and(|length: u64| length.checked_add(16).is_none()) => {
-                Answer::of(zarrs, Outcome::Refused(refusal), "overflow")
+            Err(refusal) => {
+                let class = if stages.overflows(&over) { OVERFLOW } else { rules::class(refusal) };
+                Answer::of(zarrs, Outcome::Refused(refusal), class)
             }
-            Err(refusal) => Answer::of(zarrs, Outcome::Refused(refusal), rules::class(refusal)),
         })
     }
 
@@ -202,7 +211,7 @@ impl Session {
             Some(chain) => outcome(|| Chain::of(codecs.clone(), &chain.form).encode(bytes)),
             None => outcome(|| Outcome::of(codecs.encode(bytes, &over, &CodecOptions::new(true)))),
         };
-        let refusal = match stages.lengths(&over) {
+        let refusal = match stages.lengths_by_rules(&over) {
             Ok(lengths) if lengths[0] != bytes.len() => Some(13),
             Ok(_) => None,
             Err(refusal) => Some(refusal),
@@ -215,7 +224,7 @@ impl Session {
         let chain = stages.chain.as_ref().ok_or("no chain")?;
         let options = CodecOptions::new(checks);
         let coded = |codecs: &Codecs| outcome(|| Chain::of(codecs.clone(), &chain.form).decode(bytes, &options));
-        let encoded = stages.lengths(&Over::Form(&chain.form)).map(|lengths| lengths.last().copied());
+        let encoded = stages.lengths_by_rules(&Over::Form(&chain.form)).map(|lengths| lengths.last().copied());
         let refusal = (encoded != Ok(Some(bytes.len()))).then_some(13);
         Ok(stages.both(coded, refusal))
     }
@@ -225,7 +234,7 @@ impl Session {
         let over = self.over(stages, length)?;
         let (from, to) = places;
         let count = stages.stages.len();
-        let refusal = match stages.lengths(&over) {
+        let refusal = match stages.lengths_by_rules(&over) {
             Err(refusal) => Some(refusal),
             Ok(_) if from > to || to > count => Some(13),
             Ok(lengths) if lengths[count - from] != bytes.len() => Some(13),
@@ -257,7 +266,7 @@ impl Session {
         }
         let stages = self.stages()?;
         let chain = stages.chain.clone().ok_or("no chain")?;
-        let encoded = stages.lengths(&Over::Form(&chain.form)).map_err(|_| "no chain")?;
+        let encoded = stages.lengths_by_rules(&Over::Form(&chain.form)).map_err(|_| "no chain")?;
         let encoded = *encoded.last().expect("a length at every place");
         let stages = stages.stages.clone();
         let chunk = Chunk::open(chain, &stages, self.cell.take().ok_or("no cell")?, encoded);
@@ -284,12 +293,17 @@ impl Stages {
         }
     }
 
-    /// By the rules.
-    fn lengths(&self, over: &Over) -> Result<Vec<usize>, u8> {
+    fn lengths_by_rules(&self, over: &Over) -> Result<Vec<usize>, u8> {
         match over {
             Over::Length(length) => rules::lengths(&self.stages, 0, 1, *length),
-            Over::Form(form) => lengths(&self.stages, form),
+            Over::Form(form) => lengths_of_form(&self.stages, form),
         }
+    }
+
+    /// Whether the encoded length of byte stages passes 64 bits.
+    fn overflows(&self, over: &Over) -> bool {
+        let checksums = self.stages.iter().filter(|stage| **stage == Stage::Fletcher32).count();
+        matches!(over, Over::Length(length) if length.checked_add(4 * checksums).is_none())
     }
 
     /// What zarrs' codecs give, beside the refusal of the rules or what the same codecs give with a checksum that takes
@@ -303,7 +317,7 @@ impl Stages {
     }
 }
 
-fn lengths(stages: &[Stage], form: &Form) -> Result<Vec<usize>, u8> {
+fn lengths_of_form(stages: &[Stage], form: &Form) -> Result<Vec<usize>, u8> {
     rules::lengths(stages, form.shape.len(), form.size, form.bytes)
 }
 
@@ -324,32 +338,30 @@ fn passes_64_bits(lengths: &[u64], size: usize) -> bool {
 
 /// The count of elements and bytes by zarrs' bytes codec, which knows which types it takes. Where the exact product of the
 /// lengths passes 64 bits, what it does with as many bytes as the product has by wrapping arithmetic.
-fn form_by_zarrs(lengths: &[u64], data_type: &DataType, fill: &[u8]) -> Outcome {
+fn form_by_zarrs(lengths: &[u64], data_type: &DataType) -> Result<Outcome, Error> {
     let Some(shape) = lengths.iter().map(|length| NonZeroU64::new(*length)).collect::<Option<ChunkShape>>() else {
-        return Outcome::Refused(1);
+        return Ok(Outcome::Refused(1));
     };
     let codec = BytesCodec::little();
-    let fill_value = FillValue::from(fill.to_vec());
     let size = data_type.fixed_size().unwrap_or(1);
-    let wrapped = lengths.iter().fold(1u64, |count, length| count.wrapping_mul(*length));
-    let exact = lengths.iter().try_fold(1u64, |count, length| count.checked_mul(*length));
-    if exact.is_none() {
-        if wrapped > 4096 {
-            return Outcome::Done("not asked to encode so many bytes".to_string());
+    let fill_value = FillValue::from(vec![0; size]);
+    if lengths.iter().try_fold(1u64, |count, length| count.checked_mul(*length)).is_none() {
+        let wrapped = lengths.iter().fold(1u64, |count, length| count.wrapping_mul(*length));
+        if wrapped > rules::LIMIT as u64 {
+            return Err("zarrs is not asked to encode so many bytes");
         }
         let bytes = ArrayBytes::from(vec![0; wrapped as usize * size]);
-        let encoded = codec.encode(bytes, &shape, data_type, &fill_value, &CodecOptions::new(true));
-        return match encoded {
+        let encoded = || codec.encode(bytes, &shape, data_type, &fill_value, &CodecOptions::new(true));
+        return Ok(outcome(|| match encoded() {
             Ok(bytes) => Outcome::Done(format!("encoding {} bytes", bytes.len())),
             Err(error) => Outcome::refused(&error),
-        };
+        }));
     }
-    match codec.encoded_representation(&shape, data_type, &fill_value) {
-        Ok(_) if fill.len() != size => Outcome::Refused(4),
+    Ok(outcome(|| match codec.encoded_representation(&shape, data_type, &fill_value) {
         Ok(BytesRepresentation::FixedSize(bytes)) => Outcome::Done(format!("{} {bytes}", bytes / size as u64)),
         Ok(other) => Outcome::Fails(format!("{other:?}")),
         Err(error) => Outcome::refused(&error),
-    }
+    }))
 }
 
 fn sum(bytes: &[u8]) -> Answer {

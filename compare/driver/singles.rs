@@ -2,6 +2,7 @@
 
 use std::any::Any;
 use std::borrow::Cow;
+use std::io::{self, Write};
 use std::num::NonZeroU64;
 use std::sync::Arc;
 
@@ -52,6 +53,36 @@ pub fn cache(bytes: &str, middle: &str, arrays: &str) -> Result<Answer, Error> {
     let capabilities: Vec<_> = all.iter().map(|single| (single.0.partial_read, single.0.partial_decode)).collect();
     let shown = |place: Option<usize>| Outcome::Done(place.map_or("none".to_string(), |place| place.to_string()));
     Ok(Answer::of(shown(chain::cache_index(&chain)), shown(rules::cache_place(&capabilities)), UNEXPLAINED))
+}
+
+/// Asks for the place of every list of singles in a chain of up to four byte codecs and two array codecs, and prints those
+/// where zarrs has not the place by the rule, and how many there were.
+pub fn cache_all(out: &mut dyn Write) -> io::Result<()> {
+    let single = ["yes/yes", "yes/no", "no/yes", "no/no"];
+    let longer = |lists: &Vec<Vec<&'static str>>| -> Vec<Vec<&'static str>> {
+        lists.iter().flat_map(|list| single.map(|single| [list.as_slice(), &[single]].concat())).collect()
+    };
+    let up_to = |most: usize| -> Vec<Vec<&'static str>> {
+        std::iter::successors(Some(vec![vec![]]), |lists| Some(longer(lists))).take(most + 1).flatten().collect()
+    };
+    let word = |list: &[&str]| if list.is_empty() { "-".to_string() } else { list.join(",") };
+    let mut count = 0;
+    let mut others = 0;
+    for bytes in up_to(4) {
+        for middle in single {
+            for arrays in up_to(2) {
+                let (bytes, arrays) = (word(&bytes), word(&arrays));
+                let answer = cache(&bytes, middle, &arrays).map_err(io::Error::other)?;
+                count += 1;
+                if answer.ruled.is_some() {
+                    others += 1;
+                    writeln!(out, "> cache {bytes} {middle} {arrays}\n{answer}")?;
+                }
+            }
+        }
+    }
+    writeln!(out, "cache places: {count}, not by the rule: {others}")?;
+    if others == 0 { Ok(()) } else { Err(io::Error::other("cache places not by the rule")) }
 }
 
 fn nothing<T>() -> Result<T, CodecError> {

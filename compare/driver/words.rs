@@ -19,19 +19,24 @@ pub fn bytes(word: &str) -> Result<Vec<u8>, Error> {
     if word == "-" {
         return Ok(vec![]);
     }
-    let digits: Vec<u32> = word.chars().map(|digit| digit.to_digit(16)).collect::<Option<_>>().ok_or("no bytes")?;
-    if digits.is_empty() || digits.len() % 2 == 1 {
+    let lower_case = word.bytes().all(|digit| matches!(digit, b'0'..=b'9' | b'a'..=b'f'));
+    if !lower_case || word.is_empty() || word.len() % 2 == 1 {
         return Err("no bytes");
     }
+    let digits: Vec<u32> = word.chars().filter_map(|digit| digit.to_digit(16)).collect();
     Ok(digits.chunks(2).map(|pair| (pair[0] * 16 + pair[1]) as u8).collect())
 }
 
 pub fn number(word: &str) -> Result<u64, Error> {
-    word.parse().map_err(|_| "no number")
+    if word.bytes().all(|digit| digit.is_ascii_digit()) {
+        word.parse().map_err(|_| "no number")
+    } else {
+        Err("no number")
+    }
 }
 
 pub fn size(word: &str) -> Result<usize, Error> {
-    word.parse().map_err(|_| "no number")
+    number(word)?.try_into().map_err(|_| "no number")
 }
 
 /// A list with the separator between its values, `-` for an empty one.

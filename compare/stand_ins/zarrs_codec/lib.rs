@@ -1,6 +1,6 @@
 //! Stands in for the crate `zarrs_codec`: what codecs are, the arrays that they code, and the decoders of parts that a codec
-//! has when it brings none of its own. An array's bytes and its shape are checked, and boxes and byte ranges are taken out,
-//! as docs/RULES.md says.
+//! has when it brings none of its own. The bytes of an array have the length that docs/RULES.md gives it; a box or a byte range
+//! is taken out if it lies within, and is an error else.
 
 mod array_bytes;
 mod codec;

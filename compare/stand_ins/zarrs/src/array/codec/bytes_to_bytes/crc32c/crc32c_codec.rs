@@ -11,8 +11,7 @@ use zarrs_codec::{
 use zarrs_metadata::Configuration;
 use zarrs_plugin::ZarrVersion;
 
-use super::{CHECKSUM_SIZE, Crc32cCodecConfiguration};
-use crate::array::codec::bytes_to_bytes::strip_prefix_partial_decoder::StripPrefixPartialDecoder;
+use super::Crc32cCodecConfiguration;
 
 #[derive(Debug, Clone)]
 pub struct Crc32cCodec;
@@ -80,10 +79,10 @@ impl BytesToBytesCodecTraits for Crc32cCodec {
 
     fn partial_decoder(
         self: Arc<Self>,
-        input_handle: Arc<dyn BytesPartialDecoderTraits>,
+        _input_handle: Arc<dyn BytesPartialDecoderTraits>,
         _decoded_representation: &BytesRepresentation,
         _options: &CodecOptions,
     ) -> Result<Arc<dyn BytesPartialDecoderTraits>, CodecError> {
-        Ok(Arc::new(StripPrefixPartialDecoder::new(input_handle, CHECKSUM_SIZE)))
+        not_here()
     }
 }

@@ -1,9 +1,9 @@
 //! Answers the commands of the line tool with zarrs, and makes up commands to ask both.
 //!
 //! `driver answer` reads commands on standard input; `driver generate SEED COUNT BYTES` makes up at least COUNT commands,
-//! over arrays of up to BYTES bytes; `driver cache` holds the cache places of all lists of singles against the rule. The first
-//! two print each command after `> `, and on the next line what zarrs answers. Where the
-//! rules have another answer, ` | `, the class of the difference and the answer by the rules follow on that line.
+//! over arrays of up to BYTES bytes. Both print each command after `> `, and on the next line what zarrs answers. Where the
+//! rules have another answer, ` | `, the class of the difference and the answer by the rules follow on that line. `driver cache`
+//! holds the cache places of all lists of singles against the rule.
 
 mod answer;
 mod chain;

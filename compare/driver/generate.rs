@@ -308,8 +308,12 @@ impl Generator<'_> {
     fn form_case(&mut self) -> io::Result<()> {
         let (name, size) = self.numbers.one_of(&TYPES);
         let dimensions = self.numbers.one_of(&[0, 1, 1, 2, 2, 3, 4, 5]);
-        let lengths = [0, 1, 1, 2, 3, 8, 16, 63, 64, 65, 512, 513, 4095, 4096, 4097, 1 << 32, u64::MAX as usize];
-        let shape: Vec<usize> = (0..dimensions).map(|_| self.numbers.one_of(&lengths)).collect();
+        // products of powers of two wrap to 0
+        let lengths: &[usize] = match self.numbers.below(4) {
+            0 => &[1, 2, 1 << 32, 1 << 62, 1 << 63],
+            _ => &[0, 1, 1, 2, 3, 8, 16, 63, 64, 65, 512, 513, 4095, 4096, 4097, 1 << 32, usize::MAX],
+        };
+        let shape: Vec<usize> = (0..dimensions).map(|_| self.numbers.one_of(lengths)).collect();
         let size = match self.numbers.below(8) {
             0 => self.numbers.below(10),
             _ => size,

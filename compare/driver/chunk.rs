@@ -3,16 +3,16 @@
 use std::sync::Arc;
 
 use zarrs_codec::{
-    ArrayBytes, ArrayPartialDecoderTraits, ArraySubset, ArrayToBytesCodecTraits, BytesPartialDecoderTraits, CodecError,
-    CodecOptions, IndexerError, StoredBytes,
+    ArrayBytes, ArrayPartialDecoderTraits, ArrayPartialEncoderTraits, ArraySubset, ArrayToBytesCodecTraits,
+    BytesPartialDecoderTraits, CodecError, CodecOptions, Indexer, IndexerError, StoredBytes, update_array_bytes,
 };
 use zarrs_storage::byte_range::ByteRange;
 
 use crate::answer::{Answer, Outcome, caught, outcome};
 use crate::chain::Chain;
-use crate::codecs::Over;
+use crate::codecs::{Form, Over};
 use crate::rules::{self, UNEXPLAINED};
-use crate::words::Stage;
+use crate::words::{self, Error, Stage};
 
 /// The value of a slot and its capacity.
 #[derive(Debug, Clone, Default)]
@@ -58,6 +58,8 @@ pub struct Chunk {
     /// By zarrs, with checks off and on.
     opened: [Result<Opened, Outcome>; 2],
     held: Held,
+    /// The encoded length.
+    encoded: usize,
     pub cell: Cell,
 }
 
@@ -65,7 +67,7 @@ fn opened(chain: &Chain, cell: &Cell, options: CodecOptions) -> Result<Opened, C
     let (codecs, watched) = chain.codecs.watched();
     let form = &chain.form;
     let boxes = Chain::of(codecs, form).chain.partial_decoder(
-        Arc::new(StoredBytes(cell.value.clone())),
+        Arc::new(StoredBytes::new(cell.value.clone())),
         &form.shape,
         &form.data_type,
         &form.fill_value,
@@ -106,7 +108,13 @@ impl Chunk {
             opened.and_then(|opened| opened.map_err(|error| Outcome::refused(&error)))
         });
         let held = held(&chain, &cell, encoded);
-        Self { chain, stages: stages.to_vec(), opened, held, cell }
+        Self { chain, stages: stages.to_vec(), opened, held, encoded, cell }
+    }
+
+    /// Opens it again over another value, since what zarrs' decoders keep is of the value that they were made for.
+    fn reopen(&mut self, value: Option<Vec<u8>>) {
+        let cell = Cell { value, ..self.cell };
+        *self = Self::open(self.chain.clone(), &self.stages, cell, self.encoded);
     }
 
     /// How many byte stages the chain has.
@@ -207,18 +215,99 @@ impl Chunk {
             let part = opened.boxes.partial_decode(subset, &opened.options);
             Outcome::of(part.and_then(|part| Ok(part.into_fixed()?.into_owned())))
         });
-        let ruled = match (&self.held, &subset) {
-            (Err(refusal), _) => Outcome::Refused(*refusal),
-            (Ok(_), Err(IndexerError::Dimensionality(..) | IndexerError::OutOfBounds)) => Outcome::Refused(17),
-            (Ok(held), Ok(subset)) => {
-                let array = held.as_ref().map_or_else(|| self.chain.fill(), |undone| undone.array.clone());
-                let form = &self.chain.form;
-                let shape: Vec<u64> = form.shape.iter().map(|length| length.get()).collect();
-                let part = ArrayBytes::from(array).extract_array_subset(subset, &shape, &form.data_type);
+        let ruled = match self.array_with(&subset) {
+            Err(refusal) => Outcome::Refused(refusal),
+            Ok((array, subset)) => {
+                let part = array.extract_array_subset(subset, &self.shape(), &self.chain.form.data_type);
                 Outcome::of(part.and_then(|part| Ok(part.into_fixed()?.into_owned())))
             }
         };
         Answer::of(zarrs, ruled, self.class())
+    }
+
+    fn shape(&self) -> Vec<u64> {
+        self.chain.form.shape.iter().map(|length| length.get()).collect()
+    }
+
+    /// The array by the rules and the box, if it is one of it.
+    fn array_with<'a>(
+        &self,
+        subset: &'a Result<ArraySubset, IndexerError>,
+    ) -> Result<(ArrayBytes<'static>, &'a ArraySubset), u8> {
+        let held = self.held.as_ref().map_err(|refusal| *refusal)?;
+        let subset = subset.as_ref().ok().filter(|subset| subset.is_within(&self.shape())).ok_or(17)?;
+        let array = held.as_ref().map_or_else(|| self.chain.fill(), |undone| undone.array.clone());
+        Ok((ArrayBytes::from(array), subset))
+    }
+
+    /// Writes a box.
+    pub fn write(&mut self, start: &[u64], lengths: &[u64], data: &[u8]) -> Result<Answer, Error> {
+        let subset = ArraySubset::new_with_start_shape(start.to_vec(), lengths.to_vec());
+        let data = ArrayBytes::from(data.to_vec());
+        let (zarrs, stored) = self.change(|encoder, options| {
+            let subset = subset.as_ref().map_err(IndexerError::clone)?;
+            encoder.partial_encode(subset, &data, options)
+        })?;
+        let ruled = self.array_with(&subset).and_then(|(array, subset)| {
+            let data_type = &self.chain.form.data_type;
+            data.validate(subset.len(), data_type).map_err(|_| 13)?;
+            let written = update_array_bytes(array, &self.shape(), subset, &data, data_type.size());
+            Ok(Some(written.and_then(ArrayBytes::into_fixed).expect("a box and its data").into_owned()))
+        });
+        Ok(self.changed(zarrs, stored, ruled))
+    }
+
+    pub fn erase(&mut self) -> Result<Answer, Error> {
+        let (zarrs, stored) = self.change(|encoder, _| encoder.erase())?;
+        let ruled = self.held.as_ref().map(|_| None).map_err(|refusal| *refusal);
+        Ok(self.changed(zarrs, stored, ruled))
+    }
+
+    /// What a call of zarrs' encoder of parts gives, and the value that it leaves. Of the codecs, only the bytes codec has such
+    /// an encoder here.
+    fn change(
+        &self,
+        call: impl FnOnce(&dyn ArrayPartialEncoderTraits, &CodecOptions) -> Result<(), CodecError>,
+    ) -> Result<(Outcome, Option<Vec<u8>>), Error> {
+        if self.stages.len() > 1 {
+            return Err("one of these codecs has no encoder of parts here");
+        }
+        let stored = Arc::new(StoredBytes::new(self.cell.value.clone()));
+        let options = CodecOptions::new(true);
+        let Form { shape, data_type, fill_value, .. } = &self.chain.form;
+        let chain = self.chain.chain.clone();
+        let encoder = chain.partial_encoder(stored.clone(), shape, data_type, fill_value, &options);
+        let outcome = outcome(|| match encoder.and_then(|encoder| call(&*encoder, &options)) {
+            Ok(()) => Outcome::Done(String::new()),
+            Err(error) => Outcome::refused(&error),
+        });
+        Ok((outcome, stored.value()))
+    }
+
+    /// The answer to a change that by the rules is refused or leaves an array or nothing. The value that zarrs leaves is told
+    /// where it is another.
+    fn changed(&mut self, zarrs: Outcome, stored: Option<Vec<u8>>, ruled: Result<Option<Vec<u8>>, u8>) -> Answer {
+        let value = match &ruled {
+            Ok(None) => None,
+            Ok(Some(array)) => {
+                let over = Over::Form(&self.chain.form);
+                let encoded = self.chain.codecs.encode(array, &over, &CodecOptions::new(true));
+                Some(encoded.expect("an array of the form"))
+            }
+            Err(_) => self.cell.value.clone(),
+        };
+        let storing = || stored.as_deref().map_or("nothing".to_string(), words::hex);
+        let zarrs = match zarrs {
+            zarrs if stored == value => zarrs,
+            Outcome::Done(_) => Outcome::Done(format!("storing {}", storing())),
+            refused => Outcome::Fails(format!("{refused}, but storing {}", storing())),
+        };
+        let class = if self.held.is_ok() && ruled == Err(13) { "write-length" } else { self.class() };
+        let ruled = ruled.map_or_else(Outcome::Refused, |_| Outcome::Done(String::new()));
+        if value != self.cell.value {
+            self.reopen(value);
+        }
+        Answer::of(zarrs, ruled, class)
     }
 
     pub fn range_read(&self, range: ByteRange) -> Answer {

@@ -213,9 +213,11 @@ impl Generator<'_> {
 
     fn chain_case(&mut self) -> io::Result<()> {
         let form = self.form()?;
-        let mut stages = self.array_stages(form.shape.len());
-        stages.push(self.bytes_stage(form.size).to_string());
-        stages.extend(self.byte_stages(form.bytes()));
+        let mut stages = vec![self.bytes_stage(form.size).to_string()];
+        if !self.numbers.once_in(8) {
+            stages.splice(..0, self.array_stages(form.shape.len()));
+            stages.extend(self.byte_stages(form.bytes()));
+        }
         if !self.accepted(&format!("chain {}", stages_word(&stages)))? {
             return Ok(());
         }
@@ -239,7 +241,7 @@ impl Generator<'_> {
             self.undo("-", stages.len(), &encoded)?;
         }
         if self.numbers.once_in(2) {
-            self.chunk(&form, &encoded)?;
+            self.chunk(&form, &encoded, stages.len() == 1)?;
         }
         Ok(())
     }
@@ -393,8 +395,8 @@ impl Generator<'_> {
         Ok(())
     }
 
-    /// Opens a chunk over a cell with the encoded bytes, with damaged ones or absent, and reads it.
-    fn chunk(&mut self, form: &Shaped, encoded: &[u8]) -> io::Result<()> {
+    /// Opens a chunk over a cell with the encoded bytes, with damaged ones or absent, reads it, and writes it where zarrs can.
+    fn chunk(&mut self, form: &Shaped, encoded: &[u8], written: bool) -> io::Result<()> {
         let value = match self.numbers.below(8) {
             0 | 1 => None,
             2 => Some(self.damaged(encoded)),
@@ -413,18 +415,34 @@ impl Generator<'_> {
         if self.numbers.once_in(3) {
             self.ask("kept")?;
         }
-        for _ in 0..self.numbers.from_to(1, 4) {
-            self.box_read(form)?;
-        }
-        for _ in 0..self.numbers.from_to(1, 4) {
-            self.range_read(form.bytes())?;
+        for _ in 0..self.numbers.from_to(1, 6) {
+            match self.numbers.below(if written { 4 } else { 2 }) {
+                0 => self.box_read(form)?,
+                1 => self.range_read(form.bytes())?,
+                2 if self.numbers.once_in(4) => {
+                    self.ask("erase")?;
+                }
+                _ => self.write(form)?,
+            }
         }
         self.ask("close")?;
         Ok(())
     }
 
+    /// Writes a box, mostly with data of its size, and reads all bytes.
+    fn write(&mut self, form: &Shaped) -> io::Result<()> {
+        let (start, lengths) = self.a_box(form);
+        let elements: u128 = lengths.iter().map(|length| *length as u128).product();
+        let size = if elements <= rules::LIMIT as u128 { elements as usize * form.size } else { form.bytes() };
+        let size = if self.numbers.once_in(5) { self.numbers.below(size + 2 * form.size) } else { size };
+        let data = self.numbers.bytes(size);
+        self.ask(&format!("write {} {} {}", joined(&start, ","), joined(&lengths, ","), words::hex(&data)))?;
+        self.ask("range from:0")?;
+        Ok(())
+    }
+
     /// A box: the whole, one at the edge, an empty one, one past the edge, one of other dimensions, or any.
-    fn box_read(&mut self, form: &Shaped) -> io::Result<()> {
+    fn a_box(&mut self, form: &Shaped) -> (Vec<usize>, Vec<usize>) {
         let kind = self.numbers.below(10);
         let mut start = Vec::new();
         let mut lengths = Vec::new();
@@ -452,6 +470,11 @@ impl Generator<'_> {
             }
             _ => {}
         }
+        (start, lengths)
+    }
+
+    fn box_read(&mut self, form: &Shaped) -> io::Result<()> {
+        let (start, lengths) = self.a_box(form);
         self.ask(&format!("box {} {}", joined(&start, ","), joined(&lengths, ",")))?;
         Ok(())
     }

@@ -26,6 +26,8 @@ const ODD_BYTE: &str = "odd-byte";
 /// The class of products and sums that pass 64 bits.
 const OVERFLOW: &str = "overflow";
 
+const NO_CHUNK: Error = "no chunk is open";
+
 /// The stages of a run or a chain; of a chain, also zarrs' chain and the form that it is fitted to.
 #[derive(Clone)]
 struct Stages {
@@ -79,8 +81,14 @@ impl Session {
                 Ok(self.open_chunk()?.range_read(range))
             }
             ["kept"] => Ok(self.open_chunk()?.kept()),
+            ["write", start, lengths, data] => {
+                let (start, lengths) = (words::list(start, ',')?, words::list(lengths, ',')?);
+                let data = words::bytes(data)?;
+                self.chunk.as_mut().ok_or(NO_CHUNK)?.write(&start, &lengths, &data)
+            }
+            ["erase"] => self.chunk.as_mut().ok_or(NO_CHUNK)?.erase(),
             ["close"] => {
-                let chunk = self.chunk.take().ok_or("no chunk is open")?;
+                let chunk = self.chunk.take().ok_or(NO_CHUNK)?;
                 self.cell = Some(chunk.cell);
                 Ok(Answer::same(Outcome::Done(String::new())))
             }
@@ -276,7 +284,7 @@ impl Session {
     }
 
     fn open_chunk(&self) -> Result<&Chunk, Error> {
-        self.chunk.as_ref().ok_or("no chunk is open")
+        self.chunk.as_ref().ok_or(NO_CHUNK)
     }
 }
 

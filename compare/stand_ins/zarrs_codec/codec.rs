@@ -148,7 +148,7 @@ pub trait ArrayToArrayCodecTraits: ArrayCodecTraits {
         _fill_value: &FillValue,
         _options: &CodecOptions,
     ) -> Result<Arc<dyn ArrayPartialEncoderTraits>, CodecError> {
-        Err(CodecError::Other("writing of parts is not compared".to_string()))
+        Err(CodecError::Other("no encoder of parts".to_string()))
     }
 }
 
@@ -275,6 +275,6 @@ pub trait BytesToBytesCodecTraits: CodecTraits {
         _decoded_representation: &BytesRepresentation,
         _options: &CodecOptions,
     ) -> Result<Arc<dyn BytesPartialEncoderTraits>, CodecError> {
-        Err(CodecError::Other("writing of parts is not compared".to_string()))
+        Err(CodecError::Other("no encoder of parts".to_string()))
     }
 }

@@ -58,13 +58,15 @@ impl ArraySubset {
         &self.shape
     }
 
-    /// Whether start plus length passes no dimension.
-    fn within(&self, array_shape: &[u64]) -> bool {
-        self.start
-            .iter()
-            .zip(&self.shape)
-            .zip(array_shape)
-            .all(|((start, length), dimension)| start.checked_add(*length).is_some_and(|end| end <= *dimension))
+    /// Whether it has the array's dimensions, and start plus length passes none.
+    pub fn is_within(&self, array_shape: &[u64]) -> bool {
+        self.shape.len() == array_shape.len()
+            && self
+                .start
+                .iter()
+                .zip(&self.shape)
+                .zip(array_shape)
+                .all(|((start, length), dimension)| start.checked_add(*length).is_some_and(|end| end <= *dimension))
     }
 }
 
@@ -85,7 +87,7 @@ impl Indexer for ArraySubset {
         if self.dimensionality() != array_shape.len() {
             return Err(IndexerError::new_incompatible_dimensionality(self.dimensionality(), array_shape.len()));
         }
-        if !self.within(array_shape) {
+        if !self.is_within(array_shape) {
             return Err(IndexerError::OutOfBounds);
         }
         let size = element_size as u64;

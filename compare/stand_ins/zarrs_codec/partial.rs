@@ -1,10 +1,10 @@
 //! Decoders of parts: their traits, those of codecs that bring none of their own (which decode the whole and take the part
-//! out of it), and the one of bytes as they are stored.
+//! out of it), and the one of bytes as they are stored. Encoders of parts: their traits, and the one of stored bytes.
 
 use std::any::Any;
 use std::borrow::Cow;
 use std::num::NonZeroU64;
-use std::sync::Arc;
+use std::sync::{Arc, Mutex};
 
 use zarrs_storage::StorageError;
 use zarrs_storage::byte_range::{ByteRange, ByteRangeIterator, extract_byte_ranges};
@@ -53,7 +53,6 @@ pub trait ArrayPartialDecoderTraits: Any + Send + Sync {
 /// Bytes to write, with the offset that they go to.
 pub type OffsetBytesIterator<'a> = Box<dyn Iterator<Item = (u64, ArrayBytesRaw<'a>)> + 'a>;
 
-/// Writing of parts is not compared; zarrs' files name these.
 pub trait BytesPartialEncoderTraits: BytesPartialDecoderTraits {
     fn erase(&self) -> Result<(), CodecError>;
 
@@ -84,11 +83,21 @@ pub trait ArrayPartialEncoderTraits: ArrayPartialDecoderTraits {
 }
 
 /// The value of a cell: absent or bytes.
-pub struct StoredBytes(pub Option<Vec<u8>>);
+pub struct StoredBytes(Mutex<Option<Vec<u8>>>);
+
+impl StoredBytes {
+    pub fn new(value: Option<Vec<u8>>) -> Self {
+        Self(Mutex::new(value))
+    }
+
+    pub fn value(&self) -> Option<Vec<u8>> {
+        self.0.lock().expect("no holder fails").clone()
+    }
+}
 
 impl BytesPartialDecoderTraits for StoredBytes {
     fn exists(&self) -> Result<bool, StorageError> {
-        Ok(self.0.is_some())
+        Ok(self.value().is_some())
     }
 
     fn size_held(&self) -> usize {
@@ -100,10 +109,40 @@ impl BytesPartialDecoderTraits for StoredBytes {
         decoded_regions: ByteRangeIterator,
         _options: &CodecOptions,
     ) -> Result<Option<Vec<ArrayBytesRaw<'_>>>, CodecError> {
-        self.0.as_deref().map(|bytes| extracted(bytes, decoded_regions)).transpose()
+        self.value().map(|bytes| extracted(&bytes, decoded_regions)).transpose()
     }
 
     fn supports_partial_decode(&self) -> bool {
+        true
+    }
+}
+
+impl BytesPartialEncoderTraits for StoredBytes {
+    fn erase(&self) -> Result<(), CodecError> {
+        *self.0.lock().expect("no holder fails") = None;
+        Ok(())
+    }
+
+    /// Bytes past the end make the value longer, with zeros between it and them.
+    fn partial_encode(&self, offset: u64, bytes: ArrayBytesRaw<'_>, _options: &CodecOptions) -> Result<(), CodecError> {
+        let mut value = self.0.lock().expect("no holder fails");
+        let stored = value.get_or_insert_default();
+        let start = offset as usize;
+        let end = start + bytes.len();
+        stored.resize(stored.len().max(end), 0);
+        stored[start..end].copy_from_slice(&bytes);
+        Ok(())
+    }
+
+    fn partial_encode_many(
+        &self,
+        mut offset_values: OffsetBytesIterator<'_>,
+        options: &CodecOptions,
+    ) -> Result<(), CodecError> {
+        offset_values.try_for_each(|(offset, bytes)| self.partial_encode(offset, bytes, options))
+    }
+
+    fn supports_partial_encode(&self) -> bool {
         true
     }
 }

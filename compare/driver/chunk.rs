@@ -50,20 +50,20 @@ struct Undone {
 
 /// What the chunk is by the rules: the refusal of opening, which every later call gives too, or what its cell means, if it is
 /// not absent.
-type Held = Result<Option<Undone>, u8>;
+type Meaning = Result<Option<Undone>, u8>;
 
 pub struct Chunk {
     chain: Chain,
     stages: Vec<Stage>,
     /// By zarrs, with checks off and on.
     opened: [Result<Opened, Outcome>; 2],
-    held: Held,
+    meaning: Meaning,
     /// The encoded length.
     encoded: usize,
     pub cell: Cell,
 }
 
-fn opened(chain: &Chain, cell: &Cell, options: CodecOptions) -> Result<Opened, CodecError> {
+fn open_by_zarrs(chain: &Chain, cell: &Cell, options: CodecOptions) -> Result<Opened, CodecError> {
     let (codecs, watched) = chain.codecs.watched();
     let form = &chain.form;
     let boxes = Chain::of(codecs, form).chain.partial_decoder(
@@ -77,7 +77,7 @@ fn opened(chain: &Chain, cell: &Cell, options: CodecOptions) -> Result<Opened, C
     Ok(Opened { boxes, ranges, options })
 }
 
-fn held(chain: &Chain, cell: &Cell, encoded: usize) -> Held {
+fn meaning_by_rules(chain: &Chain, cell: &Cell, encoded: usize) -> Meaning {
     if cell.capacity < encoded {
         return Err(16);
     }
@@ -104,11 +104,11 @@ impl Chunk {
     /// `encoded` is the encoded length.
     pub fn open(chain: Chain, stages: &[Stage], cell: Cell, encoded: usize) -> Self {
         let opened = [false, true].map(|checks| {
-            let opened = caught(|| opened(&chain, &cell, CodecOptions::new(checks)));
+            let opened = caught(|| open_by_zarrs(&chain, &cell, CodecOptions::new(checks)));
             opened.and_then(|opened| opened.map_err(|error| Outcome::refused(&error)))
         });
-        let held = held(&chain, &cell, encoded);
-        Self { chain, stages: stages.to_vec(), opened, held, encoded, cell }
+        let meaning = meaning_by_rules(&chain, &cell, encoded);
+        Self { chain, stages: stages.to_vec(), opened, meaning, encoded, cell }
     }
 
     /// Opens it again over another value, since what zarrs' decoders keep is of the value that they were made for.
@@ -127,7 +127,7 @@ impl Chunk {
         let Some(i) = self.chain.place().and_then(|place| self.stages.len().checked_sub(place + 1)) else {
             return false;
         };
-        let mut shape: Vec<u64> = self.chain.form.shape.iter().map(|length| length.get()).collect();
+        let mut shape = self.shape();
         for stage in &self.stages[..i] {
             if let Stage::Transpose(order) = stage {
                 shape = order.iter().map(|axis| shape[*axis]).collect();
@@ -141,7 +141,7 @@ impl Chunk {
 
     /// The class of a difference in any call but a range read.
     fn class(&self) -> &'static str {
-        match &self.held {
+        match &self.meaning {
             Err(refusal) => rules::class(*refusal),
             Ok(_) if self.shape_kept_is_another() => "kept-shape",
             Ok(None) if self.stages.contains(&Stage::Difference) => "absent-fill",
@@ -153,7 +153,7 @@ impl Chunk {
     fn range_class(&self, range: ByteRange) -> &'static str {
         let checksum_last = self.stages.get(self.stages.len() - self.byte_stages()) == Some(&Stage::Fletcher32);
         match range {
-            _ if self.held.is_err() || self.shape_kept_is_another() => self.class(),
+            _ if self.meaning.is_err() || self.shape_kept_is_another() => self.class(),
             _ if !checksum_last || self.chain.place() == Some(self.byte_stages()) => UNEXPLAINED,
             ByteRange::Suffix(_) => "last-n",
             ByteRange::FromStart(..) => "range-end",
@@ -164,7 +164,7 @@ impl Chunk {
     pub fn answer(&self) -> Answer {
         let done = Outcome::Done(String::new());
         let zarrs = self.by_zarrs(|_| done.clone());
-        let ruled = match &self.held {
+        let ruled = match &self.meaning {
             Ok(_) => done,
             Err(refusal) => Outcome::Refused(*refusal),
         };
@@ -182,7 +182,7 @@ impl Chunk {
 
     /// What is kept. Of what zarrs keeps, only the size is to be seen.
     pub fn kept(&self) -> Answer {
-        let (size, ruled) = match (&self.held, self.chain.place()) {
+        let (size, ruled) = match (&self.meaning, self.chain.place()) {
             (Err(refusal), _) => (0, Outcome::Refused(*refusal)),
             (Ok(_), None) => (0, Outcome::Done("none".to_string())),
             (Ok(None), Some(_)) => (0, Outcome::Done("absent".to_string())),
@@ -192,13 +192,13 @@ impl Chunk {
             }
         };
         let zarrs = self.by_zarrs(|opened| match (opened.boxes.size_held(), opened.boxes.exists()) {
-            (held, Ok(exists)) if held == size && exists == self.cell.value.is_some() && self.held.is_ok() => {
+            (held, Ok(exists)) if held == size && exists == self.cell.value.is_some() && self.meaning.is_ok() => {
                 ruled.clone()
             }
             (held, Ok(exists)) => Outcome::Done(format!("holding {held} bytes, exists {exists}")),
             (_, Err(error)) => Outcome::refused(&error.into()),
         });
-        let class = match &self.held {
+        let class = match &self.meaning {
             Ok(None) if !self.shape_kept_is_another() => "absent-kept",
             _ => self.class(),
         };
@@ -234,9 +234,9 @@ impl Chunk {
         &self,
         subset: &'a Result<ArraySubset, IndexerError>,
     ) -> Result<(ArrayBytes<'static>, &'a ArraySubset), u8> {
-        let held = self.held.as_ref().map_err(|refusal| *refusal)?;
+        let meaning = self.meaning.as_ref().map_err(|refusal| *refusal)?;
         let subset = subset.as_ref().ok().filter(|subset| subset.is_within(&self.shape())).ok_or(17)?;
-        let array = held.as_ref().map_or_else(|| self.chain.fill(), |undone| undone.array.clone());
+        let array = meaning.as_ref().map_or_else(|| self.chain.fill(), |undone| undone.array.clone());
         Ok((ArrayBytes::from(array), subset))
     }
 
@@ -259,7 +259,7 @@ impl Chunk {
 
     pub fn erase(&mut self) -> Result<Answer, Error> {
         let (zarrs, stored) = self.change(|encoder, _| encoder.erase())?;
-        let ruled = self.held.as_ref().map(|_| None).map_err(|refusal| *refusal);
+        let ruled = self.meaning.as_ref().map(|_| None).map_err(|refusal| *refusal);
         Ok(self.changed(zarrs, stored, ruled))
     }
 
@@ -302,7 +302,7 @@ impl Chunk {
             Outcome::Done(_) => Outcome::Done(format!("storing {}", storing())),
             refused => Outcome::Fails(format!("{refused}, but storing {}", storing())),
         };
-        let class = if self.held.is_ok() && ruled == Err(13) { "write-length" } else { self.class() };
+        let class = if self.meaning.is_ok() && ruled == Err(13) { "write-length" } else { self.class() };
         let ruled = ruled.map_or_else(Outcome::Refused, |_| Outcome::Done(String::new()));
         if value != self.cell.value {
             self.reopen(value);
@@ -316,7 +316,7 @@ impl Chunk {
             Ok(None) => Outcome::Refused(19),
             Err(error) => Outcome::refused(&error),
         });
-        let ruled = match &self.held {
+        let ruled = match &self.meaning {
             Err(refusal) => Outcome::Refused(*refusal),
             Ok(None) => Outcome::Refused(19),
             Ok(Some(Undone { bytes, .. })) => match range.of(bytes.len()) {

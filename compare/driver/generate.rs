@@ -82,6 +82,14 @@ impl Generator<'_> {
         Ok(answer)
     }
 
+    /// The same, if it is a command.
+    fn ask_if_taken(&mut self, command: &str) -> io::Result<()> {
+        if self.session.command(command).is_ok() {
+            self.ask(command)?;
+        }
+        Ok(())
+    }
+
     /// The bytes of the answer by the rules, if it is one.
     fn ask_bytes(&mut self, command: &str) -> io::Result<Option<Vec<u8>>> {
         let answer = self.ask(command)?;
@@ -322,12 +330,8 @@ impl Generator<'_> {
         };
         let name = if self.numbers.once_in(10) { self.numbers.one_of(&["string", "optional"]) } else { name };
         let fill = self.numbers.bytes(size);
-        let command = format!("form {} {name} {}", joined(&shape, "x"), words::hex(&fill));
         // zarrs is not asked everything past 64 bits
-        if self.session.command(&command).is_ok() {
-            self.ask(&command)?;
-        }
-        Ok(())
+        self.ask_if_taken(&format!("form {} {name} {}", joined(&shape, "x"), words::hex(&fill)))
     }
 
     /// Chains and runs of any stages in any order and number.
@@ -358,12 +362,8 @@ impl Generator<'_> {
                 }
             })
             .collect();
-        let kind =
-            |stage: &String| (!stage.starts_with("transpose") && stage != "difference", stage.starts_with("bytes"));
-        let several_bytes_stages = stages.len() > 1 && kind(&stages[0]).1;
-        if stages.iter().all(|stage| kind(stage) == kind(&stages[0])) && !several_bytes_stages {
-            self.ask(&format!("stages {}", stages_word(&stages)))?;
-        }
+        // stages of several kinds are no run
+        self.ask_if_taken(&format!("stages {}", stages_word(&stages)))?;
         self.ask(&format!("chain {}", stages_word(&stages)))?;
         Ok(())
     }

@@ -117,8 +117,8 @@ impl Session {
             // zarrs does not check it in the files that are here
             (Err(4), _) => Ok(Answer::same(Outcome::Refused(4))),
             (Err(refusal), _) => {
-                let overflows = passes_64_bits(&lengths, size.map_or(1, |(size, _)| size));
-                let class = if overflows { OVERFLOW } else { rules::class(refusal) };
+                let overflows = size.is_some_and(|(size, _)| passes_64_bits(&lengths, size));
+                let class = if overflows && refusal == 3 { OVERFLOW } else { rules::class(refusal) };
                 Ok(Answer::of(zarrs, Outcome::Refused(refusal), class))
             }
             (Ok(_), None) => Err("no form has a type of no size"),
@@ -341,7 +341,7 @@ fn joined(lengths: &[u64]) -> String {
 
 /// Whether an array of so many elements of the size has more bytes than 64 bits count.
 fn passes_64_bits(lengths: &[u64], size: usize) -> bool {
-    lengths.iter().try_fold(size as u64, |bytes, length| bytes.checked_mul(*length)).is_none() && !lengths.contains(&0)
+    lengths.iter().try_fold(size as u64, |bytes, length| bytes.checked_mul(*length)).is_none()
 }
 
 /// The count of elements and bytes by zarrs' bytes codec, which knows which types it takes. Where the exact product of the
@@ -353,7 +353,8 @@ fn form_by_zarrs(lengths: &[u64], data_type: &DataType) -> Result<Outcome, Error
     let codec = BytesCodec::little();
     let size = data_type.fixed_size().unwrap_or(1);
     let fill_value = FillValue::from(vec![0; size]);
-    if lengths.iter().try_fold(1u64, |count, length| count.checked_mul(*length)).is_none() {
+    let passes = lengths.iter().try_fold(1u64, |count, length| count.checked_mul(*length)).is_none();
+    if passes && data_type.fixed_size().is_some() {
         let wrapped = lengths.iter().fold(1u64, |count, length| count.wrapping_mul(*length));
         if wrapped > rules::LIMIT as u64 {
             return Err("zarrs is not asked to encode so many bytes");

@@ -12,11 +12,9 @@ use zarrs::array::codec::array_to_bytes::bytes::BytesCodec;
 use zarrs::array::codec::bytes_to_bytes::fletcher32::Fletcher32Codec;
 use zarrs::array::codec::bytes_to_bytes::shuffle::ShuffleCodec;
 use zarrs_codec::{
-    ArrayBytes, ArrayBytesRaw, ArrayCodecTraits, ArrayPartialDecoderTraits, ArrayPartialEncoderTraits,
-    ArrayToArrayCodecTraits, ArrayToBytesCodecTraits, BytesPartialDecoderTraits, BytesPartialEncoderTraits,
-    BytesRepresentation, BytesToBytesCodecTraits, ChunkShape, Codec, CodecError, CodecMetadataOptions, CodecOptions,
-    CodecTraits, DataType, FillValue, PartialDecoderCapability, PartialEncoderCapability, RecommendedConcurrency,
-    register,
+    ArrayBytes, ArrayCodecTraits, ArrayPartialDecoderTraits, ArrayToArrayCodecTraits, ArrayToBytesCodecTraits,
+    BytesPartialDecoderTraits, BytesRepresentation, BytesToBytesCodecTraits, ChunkShape, Codec, CodecError,
+    CodecOptions, CodecTraits, DataType, FillValue, PartialDecoderCapability, register,
 };
 use zarrs_metadata::Configuration;
 use zarrs_metadata::v3::MetadataV3;
@@ -224,7 +222,8 @@ impl Codecs {
     }
 }
 
-/// A bytes stage that keeps the decoder of the bytes that it reads, which are those with all byte stages undone.
+/// A bytes stage that keeps the decoder of the bytes that it reads, which are those with all byte stages undone. It is asked for
+/// parts alone.
 pub struct Watched {
     codec: Arc<dyn ArrayToBytesCodecTraits>,
     input_handle: Mutex<Option<Arc<dyn BytesPartialDecoderTraits>>>,
@@ -253,28 +252,12 @@ impl CodecTraits for Watched {
         self
     }
 
-    fn configuration(&self, version: ZarrVersion, options: &CodecMetadataOptions) -> Option<Configuration> {
-        self.codec.configuration(version, options)
-    }
-
     fn partial_decoder_capability(&self) -> PartialDecoderCapability {
         self.codec.partial_decoder_capability()
     }
-
-    fn partial_encoder_capability(&self) -> PartialEncoderCapability {
-        self.codec.partial_encoder_capability()
-    }
 }
 
-impl ArrayCodecTraits for Watched {
-    fn recommended_concurrency(
-        &self,
-        shape: &[NonZeroU64],
-        data_type: &DataType,
-    ) -> Result<RecommendedConcurrency, CodecError> {
-        self.codec.recommended_concurrency(shape, data_type)
-    }
-}
+impl ArrayCodecTraits for Watched {}
 
 impl ArrayToBytesCodecTraits for Watched {
     fn into_dyn(self: Arc<Self>) -> Arc<dyn ArrayToBytesCodecTraits> {
@@ -290,28 +273,6 @@ impl ArrayToBytesCodecTraits for Watched {
         self.codec.encoded_representation(shape, data_type, fill_value)
     }
 
-    fn encode<'a>(
-        &self,
-        bytes: ArrayBytes<'a>,
-        shape: &[NonZeroU64],
-        data_type: &DataType,
-        fill_value: &FillValue,
-        options: &CodecOptions,
-    ) -> Result<ArrayBytesRaw<'a>, CodecError> {
-        self.codec.encode(bytes, shape, data_type, fill_value, options)
-    }
-
-    fn decode<'a>(
-        &self,
-        bytes: ArrayBytesRaw<'a>,
-        shape: &[NonZeroU64],
-        data_type: &DataType,
-        fill_value: &FillValue,
-        options: &CodecOptions,
-    ) -> Result<ArrayBytes<'a>, CodecError> {
-        self.codec.decode(bytes, shape, data_type, fill_value, options)
-    }
-
     fn partial_decoder(
         self: Arc<Self>,
         input_handle: Arc<dyn BytesPartialDecoderTraits>,
@@ -322,16 +283,5 @@ impl ArrayToBytesCodecTraits for Watched {
     ) -> Result<Arc<dyn ArrayPartialDecoderTraits>, CodecError> {
         *self.input_handle.lock().expect("no holder fails") = Some(input_handle.clone());
         self.codec.clone().partial_decoder(input_handle, shape, data_type, fill_value, options)
-    }
-
-    fn partial_encoder(
-        self: Arc<Self>,
-        input_output_handle: Arc<dyn BytesPartialEncoderTraits>,
-        shape: &[NonZeroU64],
-        data_type: &DataType,
-        fill_value: &FillValue,
-        options: &CodecOptions,
-    ) -> Result<Arc<dyn ArrayPartialEncoderTraits>, CodecError> {
-        self.codec.clone().partial_encoder(input_output_handle, shape, data_type, fill_value, options)
     }
 }

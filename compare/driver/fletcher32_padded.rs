@@ -7,12 +7,9 @@ use std::sync::Arc;
 
 use zarrs::array::codec::bytes_to_bytes::fletcher32::Fletcher32Codec;
 use zarrs_codec::{
-    ArrayBytesRaw, BytesPartialDecoderTraits, BytesRepresentation, BytesToBytesCodecTraits, CodecError,
-    CodecMetadataOptions, CodecOptions, CodecTraits, PartialDecoderCapability, PartialEncoderCapability,
-    RecommendedConcurrency,
+    ArrayBytesRaw, BytesRepresentation, BytesToBytesCodecTraits, CodecError, CodecOptions, CodecTraits,
+    PartialDecoderCapability,
 };
-use zarrs_metadata::Configuration;
-use zarrs_plugin::ZarrVersion;
 
 const CHECKSUM_SIZE: usize = 4;
 
@@ -26,29 +23,14 @@ impl CodecTraits for Fletcher32Padded {
         self
     }
 
-    fn configuration(&self, version: ZarrVersion, options: &CodecMetadataOptions) -> Option<Configuration> {
-        self.0.configuration(version, options)
-    }
-
     fn partial_decoder_capability(&self) -> PartialDecoderCapability {
         self.0.partial_decoder_capability()
-    }
-
-    fn partial_encoder_capability(&self) -> PartialEncoderCapability {
-        self.0.partial_encoder_capability()
     }
 }
 
 impl BytesToBytesCodecTraits for Fletcher32Padded {
     fn into_dyn(self: Arc<Self>) -> Arc<dyn BytesToBytesCodecTraits> {
         self
-    }
-
-    fn recommended_concurrency(
-        &self,
-        decoded_representation: &BytesRepresentation,
-    ) -> Result<RecommendedConcurrency, CodecError> {
-        self.0.recommended_concurrency(decoded_representation)
     }
 
     fn encoded_representation(&self, decoded_representation: &BytesRepresentation) -> BytesRepresentation {
@@ -86,14 +68,5 @@ impl BytesToBytesCodecTraits for Fletcher32Padded {
         let mut decoded = self.0.decode(Cow::Owned(padded), decoded_representation, options)?.into_owned();
         decoded.pop();
         Ok(Cow::Owned(decoded))
-    }
-
-    fn partial_decoder(
-        self: Arc<Self>,
-        input_handle: Arc<dyn BytesPartialDecoderTraits>,
-        decoded_representation: &BytesRepresentation,
-        options: &CodecOptions,
-    ) -> Result<Arc<dyn BytesPartialDecoderTraits>, CodecError> {
-        Arc::new(self.0.clone()).partial_decoder(input_handle, decoded_representation, options)
     }
 }

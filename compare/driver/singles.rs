@@ -3,17 +3,13 @@
 use std::any::Any;
 use std::borrow::Cow;
 use std::io::{self, Write};
-use std::num::NonZeroU64;
 use std::sync::Arc;
 
 use zarrs::array::codec::array_to_bytes::codec_chain::CodecChain;
 use zarrs_codec::{
-    ArrayBytes, ArrayBytesRaw, ArrayCodecTraits, ArrayPartialDecoderTraits, ArrayPartialEncoderTraits,
-    ArrayToArrayCodecTraits, ArrayToBytesCodecTraits, BytesPartialDecoderTraits, BytesPartialEncoderTraits,
-    BytesRepresentation, BytesToBytesCodecTraits, ChunkShape, CodecError, CodecMetadataOptions, CodecOptions,
-    CodecTraits, DataType, FillValue, PartialDecoderCapability, PartialEncoderCapability, RecommendedConcurrency,
+    ArrayCodecTraits, ArrayToArrayCodecTraits, ArrayToBytesCodecTraits, BytesToBytesCodecTraits, CodecTraits,
+    PartialDecoderCapability,
 };
-use zarrs_metadata::Configuration;
 use zarrs_plugin::{ExtensionName, ZarrVersion};
 
 use crate::answer::{Answer, Outcome};
@@ -85,10 +81,6 @@ pub fn cache_all(out: &mut dyn Write) -> io::Result<()> {
     if others == 0 { Ok(()) } else { Err(io::Error::other("cache places not by the rule")) }
 }
 
-fn nothing<T>() -> Result<T, CodecError> {
-    Err(CodecError::Other("this codec codes nothing".to_string()))
-}
-
 impl ExtensionName for Single {
     fn name(&self, _version: ZarrVersion) -> Option<Cow<'static, str>> {
         None
@@ -100,66 +92,16 @@ impl CodecTraits for Single {
         self
     }
 
-    fn configuration(&self, _version: ZarrVersion, _options: &CodecMetadataOptions) -> Option<Configuration> {
-        None
-    }
-
     fn partial_decoder_capability(&self) -> PartialDecoderCapability {
         self.0
     }
-
-    fn partial_encoder_capability(&self) -> PartialEncoderCapability {
-        PartialEncoderCapability { partial_encode: false }
-    }
 }
 
-impl ArrayCodecTraits for Single {
-    fn recommended_concurrency(
-        &self,
-        _shape: &[NonZeroU64],
-        _data_type: &DataType,
-    ) -> Result<RecommendedConcurrency, CodecError> {
-        nothing()
-    }
-}
+impl ArrayCodecTraits for Single {}
 
 impl ArrayToArrayCodecTraits for Single {
     fn into_dyn(self: Arc<Self>) -> Arc<dyn ArrayToArrayCodecTraits> {
         self
-    }
-
-    fn encoded_shape(&self, _shape: &[NonZeroU64]) -> Result<ChunkShape, CodecError> {
-        nothing()
-    }
-
-    fn encoded_data_type(&self, _data_type: &DataType) -> Result<DataType, CodecError> {
-        nothing()
-    }
-
-    fn encoded_fill_value(&self, _data_type: &DataType, _fill_value: &FillValue) -> Result<FillValue, CodecError> {
-        nothing()
-    }
-
-    fn encode<'a>(
-        &self,
-        _bytes: ArrayBytes<'a>,
-        _shape: &[NonZeroU64],
-        _data_type: &DataType,
-        _fill_value: &FillValue,
-        _options: &CodecOptions,
-    ) -> Result<ArrayBytes<'a>, CodecError> {
-        nothing()
-    }
-
-    fn decode<'a>(
-        &self,
-        _bytes: ArrayBytes<'a>,
-        _shape: &[NonZeroU64],
-        _data_type: &DataType,
-        _fill_value: &FillValue,
-        _options: &CodecOptions,
-    ) -> Result<ArrayBytes<'a>, CodecError> {
-        nothing()
     }
 }
 
@@ -167,91 +109,10 @@ impl ArrayToBytesCodecTraits for Single {
     fn into_dyn(self: Arc<Self>) -> Arc<dyn ArrayToBytesCodecTraits> {
         self
     }
-
-    fn encoded_representation(
-        &self,
-        _shape: &[NonZeroU64],
-        _data_type: &DataType,
-        _fill_value: &FillValue,
-    ) -> Result<BytesRepresentation, CodecError> {
-        nothing()
-    }
-
-    fn encode<'a>(
-        &self,
-        _bytes: ArrayBytes<'a>,
-        _shape: &[NonZeroU64],
-        _data_type: &DataType,
-        _fill_value: &FillValue,
-        _options: &CodecOptions,
-    ) -> Result<ArrayBytesRaw<'a>, CodecError> {
-        nothing()
-    }
-
-    fn decode<'a>(
-        &self,
-        _bytes: ArrayBytesRaw<'a>,
-        _shape: &[NonZeroU64],
-        _data_type: &DataType,
-        _fill_value: &FillValue,
-        _options: &CodecOptions,
-    ) -> Result<ArrayBytes<'a>, CodecError> {
-        nothing()
-    }
-
-    fn partial_decoder(
-        self: Arc<Self>,
-        _input_handle: Arc<dyn BytesPartialDecoderTraits>,
-        _shape: &[NonZeroU64],
-        _data_type: &DataType,
-        _fill_value: &FillValue,
-        _options: &CodecOptions,
-    ) -> Result<Arc<dyn ArrayPartialDecoderTraits>, CodecError> {
-        nothing()
-    }
-
-    fn partial_encoder(
-        self: Arc<Self>,
-        _input_output_handle: Arc<dyn BytesPartialEncoderTraits>,
-        _shape: &[NonZeroU64],
-        _data_type: &DataType,
-        _fill_value: &FillValue,
-        _options: &CodecOptions,
-    ) -> Result<Arc<dyn ArrayPartialEncoderTraits>, CodecError> {
-        nothing()
-    }
 }
 
 impl BytesToBytesCodecTraits for Single {
     fn into_dyn(self: Arc<Self>) -> Arc<dyn BytesToBytesCodecTraits> {
         self
-    }
-
-    fn recommended_concurrency(
-        &self,
-        _decoded_representation: &BytesRepresentation,
-    ) -> Result<RecommendedConcurrency, CodecError> {
-        nothing()
-    }
-
-    fn encoded_representation(&self, decoded_representation: &BytesRepresentation) -> BytesRepresentation {
-        *decoded_representation
-    }
-
-    fn encode<'a>(
-        &self,
-        _decoded_value: ArrayBytesRaw<'a>,
-        _options: &CodecOptions,
-    ) -> Result<ArrayBytesRaw<'a>, CodecError> {
-        nothing()
-    }
-
-    fn decode<'a>(
-        &self,
-        _encoded_value: ArrayBytesRaw<'a>,
-        _decoded_representation: &BytesRepresentation,
-        _options: &CodecOptions,
-    ) -> Result<ArrayBytesRaw<'a>, CodecError> {
-        nothing()
     }
 }

@@ -1,4 +1,5 @@
-//! The traits of codecs. Where a trait gives a function, the codec has it unless it brings its own.
+//! The traits of codecs. Where a trait gives a function, the codec has it unless it brings its own: what nothing here asks of a
+//! codec need not be written for it, and one that only tells its capabilities codes nothing.
 
 use std::any::Any;
 use std::fmt::Debug;
@@ -50,10 +51,16 @@ impl RecommendedConcurrency {
     }
 }
 
+fn codes_nothing<T>() -> Result<T, CodecError> {
+    Err(CodecError::Other("this codec does not code so".to_string()))
+}
+
 pub trait CodecTraits: ExtensionName + Debug + Send + Sync {
     fn as_any(&self) -> &dyn Any;
 
-    fn configuration(&self, version: ZarrVersion, options: &CodecMetadataOptions) -> Option<Configuration>;
+    fn configuration(&self, _version: ZarrVersion, _options: &CodecMetadataOptions) -> Option<Configuration> {
+        None
+    }
 
     fn configuration_v3(&self, options: &CodecMetadataOptions) -> Option<Configuration> {
         self.configuration(ZarrVersion::V3, options)
@@ -61,15 +68,19 @@ pub trait CodecTraits: ExtensionName + Debug + Send + Sync {
 
     fn partial_decoder_capability(&self) -> PartialDecoderCapability;
 
-    fn partial_encoder_capability(&self) -> PartialEncoderCapability;
+    fn partial_encoder_capability(&self) -> PartialEncoderCapability {
+        PartialEncoderCapability { partial_encode: false }
+    }
 }
 
 pub trait ArrayCodecTraits: CodecTraits {
     fn recommended_concurrency(
         &self,
-        shape: &[NonZeroU64],
-        data_type: &DataType,
-    ) -> Result<RecommendedConcurrency, CodecError>;
+        _shape: &[NonZeroU64],
+        _data_type: &DataType,
+    ) -> Result<RecommendedConcurrency, CodecError> {
+        Ok(RecommendedConcurrency::new_maximum(1))
+    }
 
     fn partial_decode_granularity(&self, shape: &[NonZeroU64]) -> ChunkShape {
         vec![NonZeroU64::MIN; shape.len()]
@@ -86,11 +97,17 @@ pub trait ArrayToArrayCodecTraits: ArrayCodecTraits {
         self.into_dyn()
     }
 
-    fn encoded_shape(&self, shape: &[NonZeroU64]) -> Result<ChunkShape, CodecError>;
+    fn encoded_shape(&self, shape: &[NonZeroU64]) -> Result<ChunkShape, CodecError> {
+        Ok(shape.to_vec())
+    }
 
-    fn encoded_data_type(&self, data_type: &DataType) -> Result<DataType, CodecError>;
+    fn encoded_data_type(&self, data_type: &DataType) -> Result<DataType, CodecError> {
+        Ok(data_type.clone())
+    }
 
-    fn encoded_fill_value(&self, data_type: &DataType, fill_value: &FillValue) -> Result<FillValue, CodecError>;
+    fn encoded_fill_value(&self, _data_type: &DataType, fill_value: &FillValue) -> Result<FillValue, CodecError> {
+        Ok(fill_value.clone())
+    }
 
     fn encoded_representation(
         &self,
@@ -107,21 +124,25 @@ pub trait ArrayToArrayCodecTraits: ArrayCodecTraits {
 
     fn encode<'a>(
         &self,
-        bytes: ArrayBytes<'a>,
-        shape: &[NonZeroU64],
-        data_type: &DataType,
-        fill_value: &FillValue,
-        options: &CodecOptions,
-    ) -> Result<ArrayBytes<'a>, CodecError>;
+        _bytes: ArrayBytes<'a>,
+        _shape: &[NonZeroU64],
+        _data_type: &DataType,
+        _fill_value: &FillValue,
+        _options: &CodecOptions,
+    ) -> Result<ArrayBytes<'a>, CodecError> {
+        codes_nothing()
+    }
 
     fn decode<'a>(
         &self,
-        bytes: ArrayBytes<'a>,
-        shape: &[NonZeroU64],
-        data_type: &DataType,
-        fill_value: &FillValue,
-        options: &CodecOptions,
-    ) -> Result<ArrayBytes<'a>, CodecError>;
+        _bytes: ArrayBytes<'a>,
+        _shape: &[NonZeroU64],
+        _data_type: &DataType,
+        _fill_value: &FillValue,
+        _options: &CodecOptions,
+    ) -> Result<ArrayBytes<'a>, CodecError> {
+        codes_nothing()
+    }
 
     fn partial_decoder(
         self: Arc<Self>,
@@ -148,7 +169,7 @@ pub trait ArrayToArrayCodecTraits: ArrayCodecTraits {
         _fill_value: &FillValue,
         _options: &CodecOptions,
     ) -> Result<Arc<dyn ArrayPartialEncoderTraits>, CodecError> {
-        Err(CodecError::Other("no encoder of parts".to_string()))
+        codes_nothing()
     }
 }
 
@@ -164,28 +185,34 @@ pub trait ArrayToBytesCodecTraits: ArrayCodecTraits {
 
     fn encoded_representation(
         &self,
-        shape: &[NonZeroU64],
-        data_type: &DataType,
-        fill_value: &FillValue,
-    ) -> Result<BytesRepresentation, CodecError>;
+        _shape: &[NonZeroU64],
+        _data_type: &DataType,
+        _fill_value: &FillValue,
+    ) -> Result<BytesRepresentation, CodecError> {
+        codes_nothing()
+    }
 
     fn encode<'a>(
         &self,
-        bytes: ArrayBytes<'a>,
-        shape: &[NonZeroU64],
-        data_type: &DataType,
-        fill_value: &FillValue,
-        options: &CodecOptions,
-    ) -> Result<ArrayBytesRaw<'a>, CodecError>;
+        _bytes: ArrayBytes<'a>,
+        _shape: &[NonZeroU64],
+        _data_type: &DataType,
+        _fill_value: &FillValue,
+        _options: &CodecOptions,
+    ) -> Result<ArrayBytesRaw<'a>, CodecError> {
+        codes_nothing()
+    }
 
     fn decode<'a>(
         &self,
-        bytes: ArrayBytesRaw<'a>,
-        shape: &[NonZeroU64],
-        data_type: &DataType,
-        fill_value: &FillValue,
-        options: &CodecOptions,
-    ) -> Result<ArrayBytes<'a>, CodecError>;
+        _bytes: ArrayBytesRaw<'a>,
+        _shape: &[NonZeroU64],
+        _data_type: &DataType,
+        _fill_value: &FillValue,
+        _options: &CodecOptions,
+    ) -> Result<ArrayBytes<'a>, CodecError> {
+        codes_nothing()
+    }
 
     fn decode_into(
         &self,
@@ -213,21 +240,25 @@ pub trait ArrayToBytesCodecTraits: ArrayCodecTraits {
 
     fn partial_decoder(
         self: Arc<Self>,
-        input_handle: Arc<dyn BytesPartialDecoderTraits>,
-        shape: &[NonZeroU64],
-        data_type: &DataType,
-        fill_value: &FillValue,
-        options: &CodecOptions,
-    ) -> Result<Arc<dyn ArrayPartialDecoderTraits>, CodecError>;
+        _input_handle: Arc<dyn BytesPartialDecoderTraits>,
+        _shape: &[NonZeroU64],
+        _data_type: &DataType,
+        _fill_value: &FillValue,
+        _options: &CodecOptions,
+    ) -> Result<Arc<dyn ArrayPartialDecoderTraits>, CodecError> {
+        codes_nothing()
+    }
 
     fn partial_encoder(
         self: Arc<Self>,
-        input_output_handle: Arc<dyn BytesPartialEncoderTraits>,
-        shape: &[NonZeroU64],
-        data_type: &DataType,
-        fill_value: &FillValue,
-        options: &CodecOptions,
-    ) -> Result<Arc<dyn ArrayPartialEncoderTraits>, CodecError>;
+        _input_output_handle: Arc<dyn BytesPartialEncoderTraits>,
+        _shape: &[NonZeroU64],
+        _data_type: &DataType,
+        _fill_value: &FillValue,
+        _options: &CodecOptions,
+    ) -> Result<Arc<dyn ArrayPartialEncoderTraits>, CodecError> {
+        codes_nothing()
+    }
 }
 
 pub trait BytesToBytesCodecTraits: CodecTraits {
@@ -242,23 +273,31 @@ pub trait BytesToBytesCodecTraits: CodecTraits {
 
     fn recommended_concurrency(
         &self,
-        decoded_representation: &BytesRepresentation,
-    ) -> Result<RecommendedConcurrency, CodecError>;
+        _decoded_representation: &BytesRepresentation,
+    ) -> Result<RecommendedConcurrency, CodecError> {
+        Ok(RecommendedConcurrency::new_maximum(1))
+    }
 
-    fn encoded_representation(&self, decoded_representation: &BytesRepresentation) -> BytesRepresentation;
+    fn encoded_representation(&self, decoded_representation: &BytesRepresentation) -> BytesRepresentation {
+        *decoded_representation
+    }
 
     fn encode<'a>(
         &self,
-        decoded_value: ArrayBytesRaw<'a>,
-        options: &CodecOptions,
-    ) -> Result<ArrayBytesRaw<'a>, CodecError>;
+        _decoded_value: ArrayBytesRaw<'a>,
+        _options: &CodecOptions,
+    ) -> Result<ArrayBytesRaw<'a>, CodecError> {
+        codes_nothing()
+    }
 
     fn decode<'a>(
         &self,
-        encoded_value: ArrayBytesRaw<'a>,
-        decoded_representation: &BytesRepresentation,
-        options: &CodecOptions,
-    ) -> Result<ArrayBytesRaw<'a>, CodecError>;
+        _encoded_value: ArrayBytesRaw<'a>,
+        _decoded_representation: &BytesRepresentation,
+        _options: &CodecOptions,
+    ) -> Result<ArrayBytesRaw<'a>, CodecError> {
+        codes_nothing()
+    }
 
     fn partial_decoder(
         self: Arc<Self>,
@@ -275,6 +314,6 @@ pub trait BytesToBytesCodecTraits: CodecTraits {
         _decoded_representation: &BytesRepresentation,
         _options: &CodecOptions,
     ) -> Result<Arc<dyn BytesPartialEncoderTraits>, CodecError> {
-        Err(CodecError::Other("no encoder of parts".to_string()))
+        codes_nothing()
     }
 }

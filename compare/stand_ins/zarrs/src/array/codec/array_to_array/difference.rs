@@ -6,13 +6,11 @@ use std::num::NonZeroU64;
 use std::sync::Arc;
 
 use zarrs_codec::{
-    ArrayBytes, ArrayCodecTraits, ArrayToArrayCodecTraits, ChunkShape, Codec, CodecError, CodecMetadataOptions,
-    CodecOptions, CodecTraits, CodecTraitsV3, DataType, FillValue, PartialDecoderCapability, PartialEncoderCapability,
-    RecommendedConcurrency,
+    ArrayBytes, ArrayCodecTraits, ArrayToArrayCodecTraits, Codec, CodecError, CodecOptions, CodecTraits, CodecTraitsV3,
+    DataType, FillValue, PartialDecoderCapability,
 };
-use zarrs_metadata::Configuration;
 use zarrs_metadata::v3::MetadataV3;
-use zarrs_plugin::{PluginCreateError, ZarrVersion};
+use zarrs_plugin::PluginCreateError;
 
 #[derive(Debug, Clone)]
 pub struct DifferenceCodec;
@@ -49,44 +47,16 @@ impl CodecTraits for DifferenceCodec {
         self
     }
 
-    fn configuration(&self, _version: ZarrVersion, _options: &CodecMetadataOptions) -> Option<Configuration> {
-        Some(Configuration::default())
-    }
-
     fn partial_decoder_capability(&self) -> PartialDecoderCapability {
         PartialDecoderCapability { partial_read: false, partial_decode: false }
     }
-
-    fn partial_encoder_capability(&self) -> PartialEncoderCapability {
-        PartialEncoderCapability { partial_encode: false }
-    }
 }
 
-impl ArrayCodecTraits for DifferenceCodec {
-    fn recommended_concurrency(
-        &self,
-        _shape: &[NonZeroU64],
-        _data_type: &DataType,
-    ) -> Result<RecommendedConcurrency, CodecError> {
-        Ok(RecommendedConcurrency::new_maximum(1))
-    }
-}
+impl ArrayCodecTraits for DifferenceCodec {}
 
 impl ArrayToArrayCodecTraits for DifferenceCodec {
     fn into_dyn(self: Arc<Self>) -> Arc<dyn ArrayToArrayCodecTraits> {
         self
-    }
-
-    fn encoded_shape(&self, shape: &[NonZeroU64]) -> Result<ChunkShape, CodecError> {
-        Ok(shape.to_vec())
-    }
-
-    fn encoded_data_type(&self, data_type: &DataType) -> Result<DataType, CodecError> {
-        Ok(data_type.clone())
-    }
-
-    fn encoded_fill_value(&self, _data_type: &DataType, fill_value: &FillValue) -> Result<FillValue, CodecError> {
-        Ok(fill_value.clone())
     }
 
     fn encode<'a>(

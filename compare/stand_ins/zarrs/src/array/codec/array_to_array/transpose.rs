@@ -7,12 +7,12 @@ use std::sync::Arc;
 
 use zarrs_codec::{
     ArrayBytes, ArrayCodecTraits, ArrayPartialDecoderTraits, ArraySubset, ArrayToArrayCodecTraits, ChunkShape, Codec,
-    CodecError, CodecMetadataOptions, CodecOptions, CodecTraits, CodecTraitsV3, DataType, FillValue, Indexer,
-    IndexerError, PartialDecoderCapability, PartialEncoderCapability, RecommendedConcurrency,
+    CodecError, CodecOptions, CodecTraits, CodecTraitsV3, DataType, FillValue, Indexer, IndexerError,
+    PartialDecoderCapability,
 };
 use zarrs_metadata::Configuration;
 use zarrs_metadata::v3::MetadataV3;
-use zarrs_plugin::{PluginCreateError, ZarrVersion};
+use zarrs_plugin::PluginCreateError;
 use zarrs_storage::StorageError;
 
 #[derive(Debug, Clone)]
@@ -86,29 +86,12 @@ impl CodecTraits for TransposeCodec {
         self
     }
 
-    fn configuration(&self, _version: ZarrVersion, _options: &CodecMetadataOptions) -> Option<Configuration> {
-        let order: Vec<String> = self.order.iter().map(usize::to_string).collect();
-        Some(Configuration(vec![("order", order.join(","))]))
-    }
-
     fn partial_decoder_capability(&self) -> PartialDecoderCapability {
         PartialDecoderCapability { partial_read: true, partial_decode: true }
     }
-
-    fn partial_encoder_capability(&self) -> PartialEncoderCapability {
-        PartialEncoderCapability { partial_encode: false }
-    }
 }
 
-impl ArrayCodecTraits for TransposeCodec {
-    fn recommended_concurrency(
-        &self,
-        _shape: &[NonZeroU64],
-        _data_type: &DataType,
-    ) -> Result<RecommendedConcurrency, CodecError> {
-        Ok(RecommendedConcurrency::new_maximum(1))
-    }
-}
+impl ArrayCodecTraits for TransposeCodec {}
 
 impl ArrayToArrayCodecTraits for TransposeCodec {
     fn into_dyn(self: Arc<Self>) -> Arc<dyn ArrayToArrayCodecTraits> {
@@ -117,14 +100,6 @@ impl ArrayToArrayCodecTraits for TransposeCodec {
 
     fn encoded_shape(&self, shape: &[NonZeroU64]) -> Result<ChunkShape, CodecError> {
         self.turned(shape)
-    }
-
-    fn encoded_data_type(&self, data_type: &DataType) -> Result<DataType, CodecError> {
-        Ok(data_type.clone())
-    }
-
-    fn encoded_fill_value(&self, _data_type: &DataType, fill_value: &FillValue) -> Result<FillValue, CodecError> {
-        Ok(fill_value.clone())
     }
 
     fn encode<'a>(

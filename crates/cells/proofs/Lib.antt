@@ -1,0 +1,2 @@
+pub mod Overwriting
+pub mod Paging

@@ -1,7 +1,6 @@
--- What a command leaves and answers.
-use Rattle.std.specs.Prelude.{◌≡◌, ℕ, ◌+◌, ◌-◌, ◌*◌, ◌<◌, ◌≤◌, ◌⊎◌, Bool, List, ◌++◌, length, map, take, drop, replicate, Some, None, Ok, Err, vec_items, vec_len, Option, Result, OnErr}
+-- What the commands of forms, stages and buffers leave and answer.
+use Rattle.std.specs.Prelude.{◌≡◌, ℕ, ◌+◌, ◌-◌, ◌*◌, ◌<◌, ◌≤◌, ◌⊎◌, Bool, List, ◌++◌, length, map, take, drop, replicate, Some, None, Ok, Err, vec_items, vec_len, Option, Result}
 use Rattle.std.specs.List.{range_with_len}
-use Rattle.fletcher32.specs.Fletcher32.{fletcher32}
 use Rattle.form.specs.declared.fault.Fault.{Fault}
 use Rattle.form.specs.declared.array_form.Form.{Form}
 use Rattle.form.specs.Refusals.{Refusal, refusal, plain}
@@ -21,17 +20,14 @@ use Rattle.chunkctl.specs.declared.trouble.Trouble.TheVariants.{Refused, Error}
 use Rattle.chunkctl.specs.declared.trouble.Complaint.{Complaint}
 use Rattle.chunkctl.specs.declared.trouble.Complaint.TheVariants.{NoMemory, BufferTooLarge, NoStages, ByteLength, ArrayLength, NoForm, NoChain}
 use Rattle.chunkctl.specs.declared.answer.Answer.{Answer}
-use Rattle.chunkctl.specs.declared.answer.Answer.TheVariants.{Done, Commands, Form as Formed, Chain as ChainIs, Output, Bytes, Singles as SinglesAre, Lengths as LengthsAre, Sum as SumIs}
-use Rattle.chunkctl.specs.declared.session.Session.{Session}
-use Rattle.chunkctl.specs.declared.command.Command.{Command}
-use Rattle.chunkctl.specs.declared.command.Command.TheVariants.{Help, Out, Work, Peek, Form as NewForm, Stages as NewStages, Chain as NewChain, Singles, Lengths, Encode, Decode, Undo, Sum, Data}
+use Rattle.chunkctl.specs.declared.answer.Answer.TheVariants.{Done, Commands, Form as Formed, Chain as ChainIs, Output, Bytes, Singles as SinglesAre, Lengths as LengthsAre, Sum as SumIs, Capacity as CapacityIs, Length as LengthIs}
 use Rattle.chunkctl.specs.declared.command.Run.{Run}
 use Rattle.chunkctl.specs.declared.command.Undo.{Undo as Undoing}
 use Rattle.chunkctl.specs.declared.stages.Stages.{Stages}
 use Rattle.chunkctl.specs.declared.stages.Stages.TheVariants.{ArrayToArray, ArrayToBytes, BytesToBytes, Chain}
 use Rattle.chain_draft.specs.Seal.{ChainStages, array_stage, bytes_stage, byte_stage, sealed_stage}
 use Rattle.stage_names.specs.Drafting.{Chained}
-use Rattle.chunkctl.specs.Stages.{said, Built}
+use Rattle.chunkctl.specs.Stages.{Built}
 
 -- a refusal with a number alone
 abbrev pub IsRefused : ℕ → Trouble → Type 0
@@ -56,6 +52,8 @@ bytes_of (Bytes v) = Some (vec_items v)
 bytes_of (SinglesAre v) = None
 bytes_of (LengthsAre v) = None
 bytes_of (SumIs n) = None
+bytes_of (CapacityIs n) = None
+bytes_of (LengthIs n) = None
 
 -- what the singles of an answer can do, and its lengths
 abbrev pub singles_of : Answer → Option (List PartialDecoderCapability)
@@ -68,6 +66,8 @@ singles_of (Bytes v) = None
 singles_of (SinglesAre v) = Some (map (λ s. s.0) (vec_items v))
 singles_of (LengthsAre v) = None
 singles_of (SumIs n) = None
+singles_of (CapacityIs n) = None
+singles_of (LengthIs n) = None
 
 abbrev pub lengths_of : Answer → Option (List ℕ)
 lengths_of Done = None
@@ -79,6 +79,8 @@ lengths_of (Bytes v) = None
 lengths_of (SinglesAre v) = None
 lengths_of (LengthsAre v) = Some (vec_items v)
 lengths_of (SumIs n) = None
+lengths_of (CapacityIs n) = None
+lengths_of (LengthIs n) = None
 
 -- why a buffer of n bytes is not made
 abbrev pub NotMade : ℕ → Trouble → Type 0
@@ -226,27 +228,3 @@ Kept old new (Err (Error c)) = new ≡ old
 abbrev pub BeforeSum : List ℕ → Result Answer Trouble → Type 0
 BeforeSum bytes (Ok a) = (4 ≤ length bytes) × (bytes_of a ≡ Some (take (length bytes - 4) bytes))
 BeforeSum bytes (Err t) = (length bytes < 4) × IsRefused 13 t
-
--- what each command leaves of a session s
-abbrev pub Ran : Command → Session → Session → Result Answer Trouble → Type 0
-Ran Help s t r = (r ≡ Ok Commands) × (t ≡ s)
-Ran (Out n) s t r = (t.form ≡ s.form) × (t.stages ≡ s.stages) × OutputSet n s.buffers t.buffers r
-Ran (Work n m) s t r = (t.form ≡ s.form) × (t.stages ≡ s.stages) × WorkSet n m s.buffers t.buffers r
-Ran Peek s t r = (r ≡ Ok (Output (vec_len s.buffers.output))) × (t ≡ s)
-Ran (NewForm shape code fill) s t r =
-    FormSet (vec_items shape) code (vec_items fill) t.form r × OnErr r (t ≡ s) × (t.stages ≡ s.stages) × (t.buffers ≡ s.buffers)
-Ran (NewStages run) s t r = StagesSet run t.stages r × OnErr r (t ≡ s) × (t.form ≡ s.form) × (t.buffers ≡ s.buffers)
-Ran (NewChain names) s t r = ChainSet (said names) s.form t.stages r × OnErr r (t ≡ s) × (t.form ≡ s.form) × (t.buffers ≡ s.buffers)
-Ran Singles s t r = SinglesAnswer s.stages r × (t ≡ s)
-Ran (Lengths decoded) s t r = LengthsAnswer s.stages s.form decoded r × (t ≡ s)
-Ran (Encode bytes) s t r =
-    (t.form ≡ s.form) × (t.stages ≡ s.stages) ×
-    Encodes s.stages s.form (vec_items bytes) s.buffers t.buffers r × Kept s.buffers t.buffers r
-Ran (Decode checks bytes) s t r =
-    (t.form ≡ s.form) × (t.stages ≡ s.stages) ×
-    Decodes s.stages checks (vec_items bytes) s.buffers t.buffers r × Kept s.buffers t.buffers r
-Ran (Undo u) s t r =
-    (t.form ≡ s.form) × (t.stages ≡ s.stages) ×
-    Undoes s.stages s.form u s.buffers t.buffers r × Kept s.buffers t.buffers r
-Ran (Sum bytes) s t r = (r ≡ Ok (SumIs (fletcher32 (vec_items bytes)))) × (t ≡ s)
-Ran (Data bytes) s t r = BeforeSum (vec_items bytes) r × (t ≡ s)

@@ -1,6 +1,9 @@
 pub mod Stages
 pub mod Runs
 pub mod Carried
+pub mod Celled
+pub mod Layouts
 pub mod Lines
 pub mod Lists
+pub mod Sessions
 pub mod Shown

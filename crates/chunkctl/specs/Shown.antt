@@ -4,12 +4,12 @@ use Rattle.form.specs.Refusals.{fault_text}
 use Rattle.stage.specs.declared.capability.PartialDecoderCapability.{PartialDecoderCapability}
 use Rattle.text.specs.Hex.{hex_of}
 use Rattle.chunkctl.specs.declared.trouble.Complaint.{Complaint}
-use Rattle.chunkctl.specs.declared.trouble.Complaint.TheVariants.{NoMemory, LineTooLong, UnknownCommand, WordCount, Number, Hex, Shape, DataType, Stage, StageKinds, Switch, BufferTooLarge, NoStages, ByteLength, ArrayLength, NoForm, NoChain}
+use Rattle.chunkctl.specs.declared.trouble.Complaint.TheVariants.{NoMemory, LineTooLong, UnknownCommand, WordCount, Number, Hex, Shape, DataType, Stage, StageKinds, Switch, BufferTooLarge, NoStages, ByteLength, ArrayLength, NoForm, NoChain, Pages, FrontTooLong, NoCell}
 use Rattle.chunkctl.specs.declared.trouble.Trouble.{Trouble}
 use Rattle.chunkctl.specs.declared.trouble.Trouble.TheVariants.{Refused, Error}
 use Rattle.chunkctl.specs.declared.answer.Single.{Single}
 use Rattle.chunkctl.specs.declared.answer.Answer.{Answer}
-use Rattle.chunkctl.specs.declared.answer.Answer.TheVariants.{Done, Commands, Form, Chain, Output, Bytes, Singles, Lengths, Sum}
+use Rattle.chunkctl.specs.declared.answer.Answer.TheVariants.{Done, Commands, Form, Chain, Output, Bytes, Singles, Lengths, Sum, Capacity, Length}
 
 -- the text that a value prints
 abbrev pub shown : {T : Type 0} → (T → Option (List ℕ)) → T → List ℕ
@@ -55,15 +55,18 @@ complaint_text ByteLength = codes "stages over bytes take a number for the decod
 complaint_text ArrayLength = codes "stages over arrays take - for the decoded length"
 complaint_text NoForm = codes "no form yet"
 complaint_text NoChain = codes "no chain yet"
+complaint_text Pages = codes "pages joined by , are expected, or -"
+complaint_text FrontTooLong = codes "more bytes than the buffer has"
+complaint_text NoCell = codes "no cell yet"
 
 abbrev pub trouble_text : Trouble → List ℕ
 trouble_text (Refused e) = fault_text e
 trouble_text (Error c) = codes "error: " ++ complaint_text c
 
--- a place, or that there is none
-abbrev pub place_text : Option ℕ → List ℕ
-place_text None = codes "none"
-place_text (Some k) = decimal k
+-- a number, or a word where there is none
+abbrev pub number_or : List ℕ → Option ℕ → List ℕ
+number_or word None = word
+number_or word (Some n) = decimal n
 
 -- a checksum's four bytes, the most significant first
 abbrev pub sum_bytes : ℕ → List ℕ
@@ -72,14 +75,16 @@ sum_bytes n = n / 16777216 % 256 ∷ (n / 65536 % 256 ∷ (n / 256 % 256 ∷ (n 
 -- a blank and the value, where the answer has one; the list is the output buffer
 abbrev pub value_text : List ℕ → Answer → List ℕ
 value_text out Done = []
-value_text out Commands = codes " help out work peek form stages chain singles lengths encode decode undo sum data"
+value_text out Commands = codes " help out work peek form stages chain singles lengths encode decode undo sum data slot pages length read replace erase dump"
 value_text out (Form n m) = codes " " ++ (decimal n ++ (codes " " ++ decimal m))
-value_text out (Chain place n) = codes " " ++ (place_text place ++ (codes " " ++ decimal n))
+value_text out (Chain place n) = codes " " ++ (number_or (codes "none") place ++ (codes " " ++ decimal n))
 value_text out (Output n) = codes " " ++ hex_of (take n out)
 value_text out (Bytes v) = codes " " ++ hex_of (vec_items v)
 value_text out (Singles v) = codes " " ++ singles_text (vec_items v)
 value_text out (Lengths v) = codes " " ++ numbers_text (vec_items v)
 value_text out (Sum n) = codes " 0x" ++ hex_of (sum_bytes n)
+value_text out (Capacity n) = codes " " ++ decimal n
+value_text out (Length n) = codes " " ++ number_or (codes "absent") n
 
 abbrev pub outcome_text : List ℕ → Result Answer Trouble → List ℕ
 outcome_text out (Ok a) = codes "ok" ++ value_text out a

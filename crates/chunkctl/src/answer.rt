@@ -1,6 +1,6 @@
 // What a command answers, and how it is written.
 ghost use Rattle.std.specs.Prelude.{◌≡◌, ◌++◌, take, IsSome, Some, OnOk};
-ghost use Rattle.chunkctl.specs.Shown.{shown, list_text, single_text, yes_no, place_text, value_text, outcome_text, line_text};
+ghost use Rattle.chunkctl.specs.Shown.{shown, list_text, single_text, yes_no, number_or, value_text, outcome_text, line_text};
 
 use crate::trouble::Trouble;
 use stage::capability::PartialDecoderCapability;
@@ -23,6 +23,10 @@ pub enum Answer {
     Singles(Vec<Single>),
     Lengths(Vec<usize>),
     Sum(u32),
+    // the most bytes that a cell holds
+    Capacity(usize),
+    // how many bytes a cell's value has, if it is not absent
+    Length(Option<usize>),
 }
 
 // What a single can read and decode.
@@ -47,7 +51,7 @@ impl fmt::Display for Single {
 }
 
 const COMMANDS: &str =
-    " help out work peek form stages chain singles lengths encode decode undo sum data";
+    " help out work peek form stages chain singles lengths encode decode undo sum data slot pages length read replace erase dump";
 
 // The line of an answer is pushed part by part, and is not one Display: through a formatter the digits of a large buffer take
 // eight times as long. What pushes takes the allocator, if it allocates, and the text, as std's functions do; a struct of the two
@@ -87,13 +91,18 @@ fn push_list<T: fmt::Display>(
     Ok(())
 }
 
-// A place, or that there is none.
-fn push_place(heap: Global, out: &mut Vec<u8>, place: Option<usize>) -> Result<(), AllocError>
-    ensures { OnOk result (out.new.items ≡ out.old.items ++ place_text place) }
+// A number, or a word where there is none.
+fn push_number_or(
+    heap: Global,
+    out: &mut Vec<u8>,
+    number: Option<usize>,
+    word: &str,
+) -> Result<(), AllocError>
+    ensures { OnOk result (out.new.items ≡ out.old.items ++ number_or word.now number) }
 {
-    match place {
-        Some(place) => push_number(heap, out, place as u64),
-        None => push_text(out, "none"),
+    match number {
+        Some(number) => push_number(heap, out, number as u64),
+        None => push_text(out, word),
     }
 }
 
@@ -124,7 +133,7 @@ fn push_value(
         }
         Answer::Chain(place, bytes) => {
             push_text(out, " ")?;
-            push_place(heap, out, *place)?;
+            push_number_or(heap, out, *place, "none")?;
             push_text(out, " ")?;
             push_number(heap, out, *bytes as u64)
         }
@@ -147,6 +156,14 @@ fn push_value(
         Answer::Sum(sum) => {
             push_text(out, " 0x")?;
             push_hex(out, &sum.to_be_bytes())
+        }
+        Answer::Capacity(capacity) => {
+            push_text(out, " ")?;
+            push_number(heap, out, *capacity as u64)
+        }
+        Answer::Length(length) => {
+            push_text(out, " ")?;
+            push_number_or(heap, out, *length, "absent")
         }
     }
 }

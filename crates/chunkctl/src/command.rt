@@ -9,6 +9,7 @@ ghost use Rattle.chunkctl.specs.Runs.{is_over_arrays, is_over_bytes, run_of};
 
 use crate::trouble::Complaint;
 use bytes_codec::bytes_codec::Endianness;
+use cells::cell::Mark;
 use form::data_type::DataType;
 use stage_names::name::StageName;
 use stage_names::word::parse_stages;
@@ -63,6 +64,13 @@ impl Run {
     }
 }
 
+// Where in its buffer a cell's value lies.
+#[derive(Drop)]
+pub enum Layout {
+    Slot,
+    Pages(Vec<usize>),
+}
+
 #[derive(Drop)]
 pub enum Command {
     Help,
@@ -92,6 +100,21 @@ pub enum Command {
     Undo(Undo),
     Sum(Vec<u8>),
     Data(Vec<u8>),
+    // a cell over a buffer of so many bytes, the first of which are given
+    Cell {
+        size: usize,
+        layout: Layout,
+        mark: Mark,
+        front: Vec<u8>,
+    },
+    Length,
+    Read {
+        offset: usize,
+        count: usize,
+    },
+    Replace(Vec<u8>),
+    Erase,
+    Dump,
 }
 
 #[derive(Drop)]
@@ -126,12 +149,13 @@ impl<'a> Words<'a> {
         parse_hex(self.heap, self.next()?)?.ok_or(Complaint::Hex)
     }
 
-    // A decoded length, or none for `-`.
-    fn decoded(&mut self) -> Result<Option<usize>, Complaint> {
-        match self.next()? {
-            b"-" => Ok(None),
-            word => Ok(Some(parse_size(word).ok_or(Complaint::Number)?)),
+    // A number, or none for the word that says so.
+    fn number_or(&mut self, none: &[u8]) -> Result<Option<usize>, Complaint> {
+        let word = self.next()?;
+        if word == none {
+            return Ok(None);
         }
+        Ok(Some(parse_size(word).ok_or(Complaint::Number)?))
     }
 
     fn end(&self) -> Result<(), Complaint> {
@@ -147,6 +171,13 @@ fn parse_shape(heap: Global, word: &[u8]) -> Result<Vec<usize>, Complaint>
     ensures { ListRead (λ n. n) (all_said number_of (listed 120 word.now)) Complaint.Shape result }
 {
     parse_list(heap, word, b'x')?.ok_or(Complaint::Shape)
+}
+
+// The pages that a word joins by commas, or none for `-`.
+fn parse_pages(heap: Global, word: &[u8]) -> Result<Vec<usize>, Complaint>
+    ensures { ListRead (λ n. n) (all_said number_of (listed 44 word.now)) Complaint.Pages result }
+{
+    parse_list(heap, word, b',')?.ok_or(Complaint::Pages)
 }
 
 // The code of a data type, by its name or as a number. Two names have codes that no data type of the library has: it refuses
@@ -187,7 +218,7 @@ fn parse_switch(word: &[u8]) -> Result<bool, Complaint> {
 
 fn parse_undo(words: &mut Words<'_>) -> Result<Undo, Complaint> {
     Ok(Undo {
-        decoded: words.decoded()?,
+        decoded: words.number_or(b"-")?,
         from: words.number()?,
         to: words.number()?,
         checks: parse_switch(words.next()?)?,
@@ -213,7 +244,7 @@ fn parse_words(name: &[u8], words: &mut Words<'_>) -> Result<Command, Complaint>
         b"stages" => Command::Stages(Run::of(parse_names(words.heap, words.next()?)?)?),
         b"chain" => Command::Chain(parse_names(words.heap, words.next()?)?),
         b"singles" => Command::Singles,
-        b"lengths" => Command::Lengths(words.decoded()?),
+        b"lengths" => Command::Lengths(words.number_or(b"-")?),
         b"encode" => Command::Encode(words.hex()?),
         b"decode" => Command::Decode {
             checks: parse_switch(words.next()?)?,
@@ -222,6 +253,26 @@ fn parse_words(name: &[u8], words: &mut Words<'_>) -> Result<Command, Complaint>
         b"undo" => Command::Undo(parse_undo(words)?),
         b"sum" => Command::Sum(words.hex()?),
         b"data" => Command::Data(words.hex()?),
+        b"slot" => Command::Cell {
+            size: words.number()?,
+            layout: Layout::Slot,
+            mark: words.number_or(b"absent")?,
+            front: words.hex()?,
+        },
+        b"pages" => Command::Cell {
+            size: words.number()?,
+            layout: Layout::Pages(parse_pages(words.heap, words.next()?)?),
+            mark: words.number_or(b"absent")?,
+            front: words.hex()?,
+        },
+        b"length" => Command::Length,
+        b"read" => Command::Read {
+            offset: words.number()?,
+            count: words.number()?,
+        },
+        b"replace" => Command::Replace(words.hex()?),
+        b"erase" => Command::Erase,
+        b"dump" => Command::Dump,
         _ => return Err(Complaint::UnknownCommand),
     };
     Ok(command)

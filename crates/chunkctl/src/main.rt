@@ -2,6 +2,7 @@
 #![tactic(auto)]
 
 ghost use Rattle.std.specs.Prelude.{◌≡◌, OnErr};
+ghost use Rattle.chunkctl.specs.Celled.{CellKept};
 
 use answer::{Answer, push_line};
 use command::parse;
@@ -15,6 +16,7 @@ use trouble::{Complaint, Trouble};
 mod answer;
 mod command;
 mod line;
+mod owned_cell;
 mod session;
 mod stages;
 mod trouble;
@@ -28,6 +30,7 @@ fn carry_out(
     ensures line { OnErr line (session.new ≡ session.old) }
     ensures form { OnErr result (session.new.form ≡ session.old.form) }
     ensures stages { OnErr result (session.new.stages ≡ session.old.stages) }
+    ensures cell { CellKept session.old.cell session.new.cell result }
 {
     let command = parse(heap, line?.as_slice())?;
     session.run(heap, command)

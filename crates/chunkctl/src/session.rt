@@ -1,13 +1,17 @@
 // What is kept from line to line, and how a command is carried out.
-ghost use Rattle.std.specs.Prelude.{◌≡◌, ◌≤◌, length, map, replicate, Some, None, Ok, Err, vec_len, vec_items, IfOk, OnErr};
+ghost use Rattle.std.specs.Prelude.{◌≡◌, ◌≤◌, ◌<◌, length, map, replicate, Some, None, Ok, Err, vec_len, vec_items, IfOk, OnErr};
 ghost use Rattle.stage_names.specs.Names.{said_stage};
-ghost use Rattle.chunkctl.specs.Carried.{NotMade, OutputSet, WorkSet, FormSet, StagesSet, ChainSet, length_of, form_of, SinglesTold, SinglesAnswer, LengthsTold, LengthsAnswer, Kept, EncodesBy, UndoesBy, EncodesWhole, DecodesWhole, Encodes, Decodes, Undoes, BeforeSum, Ran};
+ghost use Rattle.chunkctl.specs.Carried.{NotMade, OutputSet, WorkSet, FormSet, StagesSet, ChainSet, length_of, form_of, SinglesTold, SinglesAnswer, LengthsTold, LengthsAnswer, Kept, EncodesBy, UndoesBy, EncodesWhole, DecodesWhole, Encodes, Decodes, Undoes, BeforeSum};
+ghost use Rattle.chunkctl.specs.Celled.{buffer_of, NotFilled, CellSet, LengthTold, Reads, Replaces, Erases, Dumps, CellKept};
+ghost use Rattle.chunkctl.specs.Sessions.{Ran};
 
 use crate::answer::{Answer, Single};
-use crate::command::{Command, Run, Undo};
+use crate::command::{Command, Layout, Run, Undo};
+use crate::owned_cell::{OwnedCell, Placed, check_layout, new_cell};
 use crate::stages::{Stages, built};
 use crate::trouble::{Complaint, Trouble};
 use buffers::Buffers;
+use cells::cell::{Cell, Mark};
 use chain_draft::sealing::FittedSealedChain;
 use fletcher32::fletcher32_codec::{data_before_checksum, h5_checksum_fletcher32};
 use form::array_form::Form;
@@ -28,15 +32,24 @@ pub struct Session {
     pub form: Option<Form>,
     pub stages: Option<Stages>,
     pub buffers: Buffers,
+    pub cell: Option<OwnedCell>,
+}
+
+// Whether a buffer may have so many bytes.
+fn check_size(size: usize) -> Result<(), Complaint>
+    ensures { elim result [ Ok u ↦ size ≤ 1048576 | Err c ↦ (1048576 < size) × (c ≡ Complaint.BufferTooLarge) ] }
+{
+    if size > LARGEST {
+        return Err(Complaint::BufferTooLarge);
+    }
+    Ok(())
 }
 
 // A buffer of so many bytes, each with the value.
 fn buffer(heap: Global, size: usize, value: u8) -> Result<Vec<u8>, Trouble>
     ensures { elim result [ Ok v ↦ (v.items ≡ replicate size value) × (vec_len v ≡ size) × (size ≤ 1048576) | Err t ↦ NotMade size t ] }
 {
-    if size > LARGEST {
-        return Err(Trouble::Error(Complaint::BufferTooLarge));
-    }
+    check_size(size)?;
     Ok(vec![in heap; value; size]?)
 }
 
@@ -352,11 +365,87 @@ fn before_checksum(mut bytes: Vec<u8>) -> Result<Answer, Trouble>
     Ok(Answer::Bytes(bytes))
 }
 
+// A buffer of so many bytes: those given, and zeros behind them.
+fn filled(mut front: Vec<u8>, size: usize) -> Result<Vec<u8>, Trouble>
+    ensures { elim result [ Ok v ↦ (size ≤ 1048576) × (length front.items ≤ size) × (v.items ≡ buffer_of size front.items) × (vec_len v ≡ size) | Err t ↦ NotFilled size front.items t ] }
+{
+    check_size(size)?;
+    if front.len() > size {
+        return Err(Trouble::Error(Complaint::FrontTooLong));
+    }
+    front.resize(size, 0)?;
+    Ok(front)
+}
+
+// A cell is made, and takes the place of the earlier one, also where the check refuses it.
+fn set_cell(
+    cell: &mut Option<OwnedCell>,
+    size: usize,
+    layout: &Layout,
+    mark: Mark,
+    front: Vec<u8>,
+) -> Result<Answer, Trouble>
+    ensures { CellSet ⟦<OwnedCell as Cell>⟧.value ⟦<OwnedCell as Cell>⟧.capacity ⟦<OwnedCell as Cell>⟧.behind ⟦<OwnedCell as Placed>⟧.place size layout.now mark front.items cell.old cell.new result }
+{
+    let buffer = filled(front, size)?;
+    let made = new_cell(buffer, layout, mark);
+    let capacity = made.capacity();
+    *cell = Some(made);
+    check_layout(size, layout, mark)?;
+    Ok(Answer::Capacity(capacity))
+}
+
+fn length<C: Cell>(cell: &Option<C>) -> Result<Answer, Trouble>
+    ensures { LengthTold C.value cell.now result }
+{
+    let cell = cell.as_ref().ok_or(Complaint::NoCell)?;
+    Ok(Answer::Length(cell.length()))
+}
+
+fn read<C: Cell>(
+    cell: &Option<C>,
+    output: &mut Vec<u8>,
+    offset: usize,
+    count: usize,
+) -> Result<Answer, Trouble>
+    ensures { Reads C.value cell.now offset count output.old output.new result }
+{
+    let cell = cell.as_ref().ok_or(Complaint::NoCell)?;
+    output.fill(FRESH);
+    let count = cell.read(offset, count, output.as_mut_slice())?;
+    Ok(Answer::Output(count))
+}
+
+fn replace<C: Cell>(cell: &mut Option<C>, bytes: &[u8]) -> Result<Answer, Trouble>
+    ensures { Replaces C.value C.capacity C.rewritten bytes.now cell.old cell.new result }
+{
+    let cell = cell.as_mut().ok_or(Complaint::NoCell)?;
+    cell.replace(bytes)?;
+    Ok(Answer::Done)
+}
+
+fn erase<C: Cell>(cell: &mut Option<C>) -> Result<Answer, Trouble>
+    ensures { Erases C.value C.capacity C.rewritten cell.old cell.new result }
+{
+    let cell = cell.as_mut().ok_or(Complaint::NoCell)?;
+    cell.erase();
+    Ok(Answer::Done)
+}
+
+// The whole buffer behind the cell, copied: the answer does not borrow the session.
+fn dump(heap: Global, cell: &Option<OwnedCell>) -> Result<Answer, Trouble>
+    ensures { Dumps ⟦<OwnedCell as Cell>⟧.behind cell.now result }
+{
+    let cell = cell.as_ref().ok_or(Complaint::NoCell)?;
+    Ok(Answer::Bytes(Vec::from_slice(heap, cell.buffer().as_slice())?))
+}
+
 impl Session {
-    // At first there are no form and no stages, and each buffer has the 4,096 bytes of the largest chunk.
+    // At first there are no form, no stages and no cell, and each buffer has the 4,096 bytes of the largest chunk.
     pub fn new(heap: Global) -> Result<Session, AllocError>
         ensures form { IfOk result (λ s. s.form ≡ None) }
         ensures stages { IfOk result (λ s. s.stages ≡ None) }
+        ensures cell { IfOk result (λ s. s.cell ≡ None) }
         ensures output { IfOk result (λ s. vec_items s.buffers.output ≡ replicate 4096 238) }
         ensures work { IfOk result (λ s. vec_len s.buffers.work ≡ 4096) }
         ensures scratch { IfOk result (λ s. vec_len s.buffers.scratch ≡ 4096) }
@@ -367,14 +456,16 @@ impl Session {
             form: None,
             stages: None,
             buffers,
+            cell: None,
         })
     }
 
-    // Carries out a command. Whatever is not accepted leaves the form and the stages as they were.
+    // Carries out a command. Whatever is not accepted leaves the form and the stages as they were, and an error the cell too.
     pub fn run(&mut self, heap: Global, command: Command) -> Result<Answer, Trouble>
-        ensures ran { Ran command self.old self.new result }
+        ensures ran { Ran (λ s. s.cell) ⟦<OwnedCell as Cell>⟧.value ⟦<OwnedCell as Cell>⟧.capacity ⟦<OwnedCell as Cell>⟧.behind ⟦<OwnedCell as Placed>⟧.place ⟦<OwnedCell as Cell>⟧.rewritten command self.old self.new result }
         ensures form { OnErr result (self.new.form ≡ self.old.form) }
         ensures stages { OnErr result (self.new.stages ≡ self.old.stages) }
+        ensures cell { CellKept self.old.cell self.new.cell result }
     {
         match command {
             Command::Help => Ok(Answer::Commands),
@@ -404,6 +495,19 @@ impl Session {
             }
             Command::Sum(bytes) => Ok(Answer::Sum(h5_checksum_fletcher32(bytes.as_slice()))),
             Command::Data(bytes) => before_checksum(bytes),
+            Command::Cell {
+                size,
+                layout,
+                mark,
+                front,
+            } => set_cell(&mut self.cell, size, &layout, mark, front),
+            Command::Length => length(&self.cell),
+            Command::Read { offset, count } => {
+                read(&self.cell, &mut self.buffers.output, offset, count)
+            }
+            Command::Replace(bytes) => replace(&mut self.cell, bytes.as_slice()),
+            Command::Erase => erase(&mut self.cell),
+            Command::Dump => dump(heap, &self.cell),
         }
     }
 }

@@ -28,6 +28,9 @@ pub enum Complaint {
     ArrayLength,
     NoForm,
     NoChain,
+    Pages,
+    FrontTooLong,
+    NoCell,
 }
 
 impl fmt::Display for Complaint {
@@ -52,6 +55,9 @@ impl fmt::Display for Complaint {
             Complaint::ArrayLength => "stages over arrays take - for the decoded length",
             Complaint::NoForm => "no form yet",
             Complaint::NoChain => "no chain yet",
+            Complaint::Pages => "pages joined by , are expected, or -",
+            Complaint::FrontTooLong => "more bytes than the buffer has",
+            Complaint::NoCell => "no cell yet",
         })
     }
 }

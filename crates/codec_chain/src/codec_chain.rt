@@ -18,7 +18,10 @@ pub struct CodecChain<
     stages: Pair<S, Pair<B, A>>,
     // how many singles there are
     singles: usize,
+    // how many of them are of the codecs from bytes to bytes
+    bytes_place: usize,
     ghost counted: { singles ≡ length (chain_stage A.Codec.meaning B.Codec.meaning S.Codec.meaning stages).singles },
+    ghost placed: { bytes_place ≡ length (S.Codec.meaning stages.outer).singles },
 }
 
 impl<
@@ -35,9 +38,14 @@ impl<
         ensures made { IfSome result (λ c. c.stages ≡ record { outer = bytes_to_bytes; inner = record { outer = array_to_bytes; inner = array_to_array } }) }
         ensures counted { IsSome result ↔ (length (chain_stage A.Codec.meaning B.Codec.meaning S.Codec.meaning (record { outer = bytes_to_bytes; inner = record { outer = array_to_bytes; inner = array_to_array } })).singles < 2 ^ 64) }
     {
+        let bytes_place = bytes_to_bytes.singles()?;
         let stages = Pair::new(bytes_to_bytes, Pair::new(array_to_bytes, array_to_array));
         let singles = stages.singles()?;
-        Some(CodecChain { stages, singles })
+        Some(CodecChain {
+            stages,
+            singles,
+            bytes_place,
+        })
     }
 
     // The chain as one codec.
@@ -52,6 +60,13 @@ impl<
         ensures { result ≡ length (chain_stage A.Codec.meaning B.Codec.meaning S.Codec.meaning self.now.stages).singles }
     {
         self.singles
+    }
+
+    // The place where all codecs from bytes to bytes are undone.
+    pub fn bytes_place(&self) -> usize
+        ensures { result ≡ length (S.Codec.meaning self.now.stages.outer).singles }
+    {
+        self.bytes_place
     }
 
     // The place where what is decoded is kept: none where every single has both capabilities, and else the least that meets the

@@ -1,0 +1,3 @@
+pub mod Subsets
+pub mod Answers
+pub mod Laws

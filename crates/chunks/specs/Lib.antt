@@ -1,0 +1,9 @@
+pub mod Views
+pub mod Sound
+pub mod Ranges
+pub mod Caches
+pub mod Calls
+pub mod Histories
+pub mod Openings
+pub mod Seen
+pub mod Replays

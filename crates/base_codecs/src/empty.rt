@@ -10,9 +10,10 @@ use stage::codec::{Codec, Representation};
 use stage::room::room;
 use std::marker::PhantomData;
 
+// The field is open, so that a constant can be written: a constant calls no function.
 #[derive(Clone, Copy)]
 pub struct Empty<F> {
-    of: PhantomData<F>,
+    pub of: PhantomData<F>,
 }
 
 impl<F> Empty<F> {

@@ -11,9 +11,10 @@ use stage::codec::{Codec, Representation};
 use stage::room::room;
 use stage::single::SingleCodec;
 
+// The field is open, so that what a choice holds can be read and written in a pattern and in a constant.
 #[derive(Clone, Copy)]
 pub struct Single<C> {
-    codec: C,
+    pub codec: C,
 }
 
 impl<C> Single<C> {

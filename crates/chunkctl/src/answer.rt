@@ -1,11 +1,12 @@
 // What a command answers, and how it is written.
-ghost use Rattle.std.specs.Prelude.{◌≡◌, ◌++◌, take, IsSome, Some, OnOk};
-ghost use Rattle.chunkctl.specs.Shown.{shown, list_text, single_text, yes_no, number_or, value_text, outcome_text, line_text};
+ghost use Rattle.std.specs.Prelude.{◌≡◌, ℕ, List, ◌++◌, take, IsSome, Some, OnOk, decimal};
+ghost use Rattle.chunkctl.specs.Shown.{shown, list_text, single_text, trouble_text, number_or, value_text, outcome_text, line_text};
 
 use crate::trouble::Trouble;
 use stage::capability::PartialDecoderCapability;
 use std::alloc::{AllocError, Global};
 use std::fmt;
+use std::io::Write;
 use text::hex::push_hex;
 use text::number::push_number;
 
@@ -33,20 +34,26 @@ pub enum Answer {
 #[derive(Clone, Copy)]
 pub struct Single(pub PartialDecoderCapability);
 
-// Two words; what bool prints is others.
-fn yes_no(yes: bool) -> &'static str
-    ensures { result.now ≡ yes_no yes }
-{
-    if yes { "yes" } else { "no" }
+impl Single {
+    // Two words; what bool prints is others.
+    fn text(&self) -> &'static str
+        ensures { result.now ≡ single_text self.now.0 }
+    {
+        let (read, decode) = (self.0.partial_read, self.0.partial_decode);
+        match (read, decode) {
+            (true, true) => "yes/yes",
+            (true, false) => "yes/no",
+            (false, true) => "no/yes",
+            (false, false) => "no/no",
+        }
+    }
 }
 
 impl fmt::Display for Single {
     ghost output = { λ s. Some (single_text s.0) };
 
     fn fmt<W: fmt::Write>(&self, f: &mut fmt::Formatter<W>) -> fmt::Result {
-        let read = yes_no(self.0.partial_read);
-        let decode = yes_no(self.0.partial_decode);
-        write!(f, "{read}/{decode}")
+        f.write_str(self.text())
     }
 }
 
@@ -62,31 +69,63 @@ fn push_text(out: &mut Vec<u8>, text: &str) -> Result<(), AllocError>
     out.extend_from_slice(text.as_bytes())
 }
 
-// What a value prints.
-fn push_shown<T: fmt::Display>(heap: Global, out: &mut Vec<u8>, value: &T) -> Result<(), AllocError>
+// What a value prints, which needs no memory but that of the reply.
+fn push_shown<T: fmt::Display>(out: &mut Vec<u8>, value: &T) -> Result<(), AllocError>
     requires { IsSome (T.output value.now) }
     ensures { OnOk result (out.new.items ≡ out.old.items ++ shown T.output value.now) }
 {
-    let text = value.to_string(heap)?;
-    push_text(out, text.as_str())
+    write!(out, "{value}").map_err(|_| AllocError)
+}
+
+// What an answer has one or several of. Its text is pushed as it is, and not through a formatter, which takes the half again.
+trait Pushed {
+    ghost text: { Self → List ℕ };
+
+    fn push(&self, heap: Global, out: &mut Vec<u8>) -> Result<(), AllocError>
+        ensures { OnOk result (out.new.items ≡ out.old.items ++ text self.now) };
+}
+
+impl Pushed for usize {
+    ghost text = { decimal };
+
+    fn push(&self, heap: Global, out: &mut Vec<u8>) -> Result<(), AllocError> {
+        push_number(heap, out, *self as u64)
+    }
+}
+
+impl Pushed for Single {
+    ghost text = { λ s. single_text s.0 };
+
+    fn push(&self, _heap: Global, out: &mut Vec<u8>) -> Result<(), AllocError> {
+        push_text(out, self.text())
+    }
+}
+
+impl Pushed for Trouble {
+    ghost text = { trouble_text };
+
+    fn push(&self, _heap: Global, out: &mut Vec<u8>) -> Result<(), AllocError> {
+        match self {
+            Trouble::Refused(fault) => push_shown(out, fault),
+            Trouble::Error(complaint) => {
+                push_text(out, "error: ")?;
+                push_text(out, complaint.text())
+            }
+        }
+    }
 }
 
 // Values joined by commas, or - for none.
-fn push_list<T: fmt::Display>(
-    heap: Global,
-    out: &mut Vec<u8>,
-    values: &[T],
-) -> Result<(), AllocError>
-    requires { (x : T) → IsSome (T.output x) }
-    ensures { OnOk result (out.new.items ≡ out.old.items ++ list_text (shown T.output) values.now) }
+fn push_list<T: Pushed>(heap: Global, out: &mut Vec<u8>, values: &[T]) -> Result<(), AllocError>
+    ensures { OnOk result (out.new.items ≡ out.old.items ++ list_text T.Pushed.text values.now) }
 {
     let [first, rest @ ..] = values else {
         return push_text(out, "-");
     };
-    push_shown(heap, out, first)?;
+    first.push(heap, out)?;
     for value in rest {
         push_text(out, ",")?;
-        push_shown(heap, out, value)?;
+        value.push(heap, out)?;
     }
     Ok(())
 }
@@ -182,7 +221,7 @@ fn push_outcome(
             push_text(out, "ok")?;
             push_value(heap, out, answer, output)
         }
-        Err(trouble) => push_shown(heap, out, trouble),
+        Err(trouble) => trouble.push(heap, out),
     }
 }
 

@@ -25,14 +25,14 @@ mod trouble;
 fn carry_out(
     heap: Global,
     session: &mut Session,
-    line: Result<Vec<u8>, Complaint>,
+    line: Result<&[u8], Complaint>,
 ) -> Result<Answer, Trouble>
-    ensures line { OnErr line (session.new ≡ session.old) }
+    ensures line { OnErr line.entry (session.new ≡ session.old) }
     ensures form { OnErr result (session.new.form ≡ session.old.form) }
     ensures stages { OnErr result (session.new.stages ≡ session.old.stages) }
     ensures cell { CellKept session.old.cell session.new.cell result }
 {
-    let command = parse(heap, line?.as_slice())?;
+    let command = parse(heap, line?)?;
     session.run(heap, command)
 }
 
@@ -40,10 +40,10 @@ fn carry_out(
 fn respond(
     heap: Global,
     session: &mut Session,
-    line: Result<Vec<u8>, Complaint>,
+    line: Result<&[u8], Complaint>,
     reply: &mut Vec<u8>,
 ) -> Result<(), AllocError>
-    ensures { OnErr line (session.new ≡ session.old) }
+    ensures { OnErr line.entry (session.new ≡ session.old) }
 {
     let outcome = carry_out(heap, session, line);
     reply.clear();
@@ -53,9 +53,12 @@ fn respond(
 fn main(rt: HostRuntime) -> io::Result<()> {
     let heap = rt.alloc();
     let mut session = Session::new(heap)?;
+    let mut line = Vec::new(heap);
     let mut reply = Vec::new(heap);
-    for line in Lines::new(heap, BufReader::new(heap, rt.stdin())?) {
-        match respond(heap, &mut session, line?, &mut reply) {
+    let mut lines = Lines::new(BufReader::new(heap, rt.stdin())?);
+    while let Some(kept) = lines.read_line(&mut line)? {
+        let line = kept.map(|()| line.as_slice());
+        match respond(heap, &mut session, line, &mut reply) {
             Ok(()) => rt.write_all(reply.as_slice())?,
             Err(_) => rt.write_all(b"error: no memory\n")?,
         }

@@ -33,11 +33,11 @@ pub enum Complaint {
     NoCell,
 }
 
-impl fmt::Display for Complaint {
-    ghost output = { λ c. Some (complaint_text c) };
-
-    fn fmt<W: fmt::Write>(&self, f: &mut fmt::Formatter<W>) -> fmt::Result {
-        f.write_str(match self {
+impl Complaint {
+    pub fn text(&self) -> &'static str
+        ensures { result.now ≡ complaint_text self.now }
+    {
+        match self {
             Complaint::NoMemory => "no memory",
             Complaint::LineTooLong => "line too long",
             Complaint::UnknownCommand => "no such command",
@@ -58,7 +58,15 @@ impl fmt::Display for Complaint {
             Complaint::Pages => "pages joined by , are expected, or -",
             Complaint::FrontTooLong => "more bytes than the buffer has",
             Complaint::NoCell => "no cell yet",
-        })
+        }
+    }
+}
+
+impl fmt::Display for Complaint {
+    ghost output = { λ c. Some (complaint_text c) };
+
+    fn fmt<W: fmt::Write>(&self, f: &mut fmt::Formatter<W>) -> fmt::Result {
+        f.write_str(self.text())
     }
 }
 
@@ -86,7 +94,10 @@ impl fmt::Display for Trouble {
     fn fmt<W: fmt::Write>(&self, f: &mut fmt::Formatter<W>) -> fmt::Result {
         match self {
             Trouble::Refused(fault) => write!(f, "{fault}"),
-            Trouble::Error(complaint) => write!(f, "error: {complaint}"),
+            Trouble::Error(complaint) => {
+                f.write_str("error: ")?;
+                f.write_str(complaint.text())
+            }
         }
     }
 }

@@ -8,7 +8,7 @@ use Rattle.fletcher32.specs.Fletcher32.{words, sum, running, folded}
 folded_first : (a b c : ℕ) → folded a ≡ folded b → folded (a + c) ≡ folded (b + c)
 folded_first a b c h = grind (arith, nat_tests)
 
-folded_both : (a b c d : ℕ) → folded a ≡ folded b → folded c ≡ folded d → folded (a + c) ≡ folded (b + d)
+pub folded_both : (a b c d : ℕ) → folded a ≡ folded b → folded c ≡ folded d → folded (a + c) ≡ folded (b + d)
 folded_both a b c d h k = grind (arith, nat_tests)
 
 -- nor does the sum of all running sums of its start

@@ -7,7 +7,7 @@ use Rattle.std.proofs.lemmas.Nat.{div-mul-add, div_below, div-add-mod', and_mask
 use Rattle.groups.specs.Groups.{Narrow, GroupLaws, modular}
 use Rattle.groups.specs.Widths.{pow_bits}
 
-above : (w : ℕ) → 0 < 256 ^ w
+pub above : (w : ℕ) → 0 < 256 ^ w
 above w = one-le-pow w 256 (lit< tt)
 
 around : (m a : ℕ) → a < m → (a + m) % m ≡ a

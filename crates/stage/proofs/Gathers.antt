@@ -15,7 +15,7 @@ length-gathered g n x = length-map-range_with_len _ 0 n
 pub get_or-gathered : (g : ℕ → ℕ) (n : ℕ) (x : List ℕ) (p : ℕ) → p < n → get_or (gathered g n x) p 0 ≡ get_or x (g p) 0
 get_or-gathered g n x p h = get_or-map-range_with_len _ 0 n p p 0 h (zero-add p)
 
-Bytes-gathered : (g : ℕ → ℕ) (n : ℕ) (x : List ℕ) → Bytes x → Bytes (gathered g n x)
+pub Bytes-gathered : (g : ℕ → ℕ) (n : ℕ) (x : List ℕ) → Bytes x → Bytes (gathered g n x)
 Bytes-gathered g n x h k l = rw (get_or-gathered g n x k (omega (arith, length-gathered g n x))) (byte_anywhere x h _)
 
 pub gathered_back : (g h : ℕ → ℕ) (n : ℕ) (x : List ℕ) → length x ≡ n → ((p : ℕ) → p < n → (h p < n) × (g (h p) ≡ p)) → gathered h n (gathered g n x) ≡ x

@@ -1,18 +1,19 @@
--- Decimal numbers are read back, and a word of digits is parsed as the number that it is.
-use Rattle.std.proofs.Common.{◌≡◌, ℕ, ◌^◌, ◌<◌, ◌≢◌, Bool, true, false, List, length, get_or, None, Result, Ok, Err, sym, refl, ap, ◌∙◌, arith, rules}
+-- Decimal numbers are read back, and a longer number is no smaller.
+use Rattle.std.proofs.Common.{◌≡◌, ℕ, ◌+◌, ◌-◌, ◌*◌, ◌^◌, ◌<◌, ◌≤◌, true, false, ◌&&◌, List, [], ◌∷◌, length, get_or, drop, Some, None, sym, ap, ◌∙◌, arith, rules}
+use Rattle.std.proofs.lemmas.List.{at_drop_more, at_drop_all}
 use Rattle.std.specs.Char.{is_ascii_digit}
-use Rattle.std.specs.Result.{OkIff, result_ok}
-use Rattle.std.specs.Str.{all_ascii_digits, IsUtf8}
-use Rattle.std.specs.Str.Parse.{ParsesUnsigned}
-use Rattle.std.proofs.lemmas.Bool.{false≢true}
 use Rattle.std.proofs.lemmas.Bool.Decides.{nat_tests}
-use Rattle.std.proofs.lemmas.Str.{IsUtf8-from_ascii}
-use Rattle.std.proofs.lemmas.Str.Parse.{IsNumeralModel, numerals_by_fold, tells_all_ascii_digits, parse_plain}
-use Rattle.std.proofs.lemmas.Fmt.{digits_decimal, digits_value-decimal, decimal_nonempty, IsAscii-from_digits}
+use Rattle.std.proofs.lemmas.Str.Parse.{IsNumeralModel, numerals_by_fold, tells_all_ascii_digits}
+use Rattle.std.proofs.lemmas.Fmt.{digits_decimal, digits_value-decimal, decimal_nonempty}
+use Rattle.std.specs.Str.{all_ascii_digits}
 use Rattle.text.specs.Number.{digits_value, number_of, ReadsBack}
 
 own : IsNumeralModel (λ ds. all_ascii_digits ds ≡ true) (digits_value 0)
 own = numerals_by_fold _ tells_all_ascii_digits digits_value (search rules)
+
+pub no_smaller : (n : ℕ) (ds : List ℕ) → n ≤ digits_value n ds
+no_smaller n [] = omega arith
+no_smaller n (c ∷ cs) = omega (arith, no_smaller (10 * n + (c - 48)) cs)
 
 pub reads_back : ReadsBack
 reads_back n small =
@@ -21,21 +22,32 @@ reads_back n small =
     let some = decimal_nonempty n small in
     grind (arith, nat_tests)
 
-refused : (word : List ℕ) (all : Bool) → all_ascii_digits word ≡ all → ¬ ((all ≡ true) × (0 < length word) × (digits_value 0 word < 2 ^ 64)) → None ≡ number_of word
-refused word false e h = grind (arith, nat_tests)
-refused word true e h = grind (arith, nat_tests)
+-- a byte that is no digit
+pub refuse_byte : (word : List ℕ) (i : ℕ) → i < length word → false ≡ is_ascii_digit (get_or word i 0) → all_ascii_digits (drop i word) ≡ all_ascii_digits word → None ≡ number_of word
+refuse_byte word i h t e =
+    let step = at_drop_more all_ascii_digits word i 0 h in
+    let none : all_ascii_digits word ≡ false = sym e ∙ (step ∙ ap (λ b. b && all_ascii_digits (drop (i + 1) word)) (sym t)) in
+    grind (arith, nat_tests)
 
--- what is no text is no number
-pub no_text : (word : List ℕ) → ¬ (IsUtf8 word) → None ≡ number_of word
-no_text word h =
-    refused word (all_ascii_digits word) refl (λ p. h (IsUtf8-from_ascii word (IsAscii-from_digits word (own.to word p.0))))
+-- a value that 64 bits do not hold
+pub refuse_large : (word : List ℕ) (n i : ℕ) → i < length word → 2 ^ 64 ≤ 10 * n + (get_or word i 0 - 48) → digits_value n (drop i word) ≡ digits_value 0 word → None ≡ number_of word
+refuse_large word n i h large e =
+    let step = at_drop_more (digits_value n) word i 0 h in
+    let least = no_smaller (10 * n + (get_or word i 0 - 48)) (drop (i + 1) word) in
+    let big : 2 ^ 64 ≤ digits_value 0 word = omega arith in
+    grind (arith, nat_tests)
 
-read : {E : Type 0} (word : List ℕ) (r : Result ℕ E) → OkIff r ((all_ascii_digits word ≡ true) × (0 < length word) × (digits_value 0 word < 2 ^ 64)) (digits_value 0 word) → result_ok r ≡ number_of word
-read word (Ok n) h = let all = h.0.0 in let some = h.0.1 in let small = h.0.2 in let same = h.1 in grind (arith, nat_tests)
-read word (Err e) h = refused word (all_ascii_digits word) refl h
+-- one more digit
+pub digit_more : (word : List ℕ) (n m i : ℕ) → i < length word → true ≡ is_ascii_digit (get_or word i 0) → m ≡ 10 * n + (get_or word i 0 - 48) → (all_ascii_digits (drop i word) ≡ all_ascii_digits word) × (digits_value n (drop i word) ≡ digits_value 0 word) → (all_ascii_digits (drop (i + 1) word) ≡ all_ascii_digits word) × (digits_value m (drop (i + 1) word) ≡ digits_value 0 word)
+digit_more word n m i h t em e =
+    let all = at_drop_more all_ascii_digits word i 0 h in
+    let value = at_drop_more (digits_value n) word i 0 h in
+    let passed = ap (λ b. b && all_ascii_digits (drop (i + 1) word)) t in
+    (passed ∙ (sym all ∙ e.0), ap (λ k. digits_value k (drop (i + 1) word)) em ∙ (sym value ∙ e.1))
 
--- a word with a digit in front has no sign
-pub parsed : {E : Type 0} (word : List ℕ) (r : Result ℕ E) → ParsesUnsigned 64 10 word r → true ≡ is_ascii_digit (get_or word 0 0) → result_ok r ≡ number_of word
-parsed word r p d =
-    let plain : get_or word 0 0 ≢ 43 = λ e. absurd (false≢true (sym (d ∙ ap is_ascii_digit e))) in
-    read word r (parse_plain own 64 word r p plain)
+-- all digits read
+pub digits_all : (word : List ℕ) (n i : ℕ) → length word ≤ i → 0 < length word → n < 2 ^ 64 → (all_ascii_digits (drop i word) ≡ all_ascii_digits word) × (digits_value n (drop i word) ≡ digits_value 0 word) → Some n ≡ number_of word
+digits_all word n i h some small e =
+    let all : true ≡ all_ascii_digits word = sym (at_drop_all all_ascii_digits word i h) ∙ e.0 in
+    let value : n ≡ digits_value 0 word = sym (at_drop_all (digits_value n) word i h) ∙ e.1 in
+    grind (arith, nat_tests)

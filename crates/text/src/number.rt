@@ -5,15 +5,22 @@ ghost use Rattle.text.specs.Number.{number_of, ReadsBack};
 use crate::list::FromWord;
 use std::alloc::{AllocError, Global};
 
-// The number that a word of digits writes, if 64 bits hold it.
+// The number that a word of digits writes, if 64 bits hold it. It goes digit by digit and ends at the first byte that shows that
+// the word is none: `from_str_radix` wants a `str`, whose test reads the whole word first, and takes half as long again or more.
 pub fn parse_number(word: &[u8]) -> Option<u64>
     ensures { result ≡ number_of word.now }
 {
-    // `from_str_radix` would take a sign in front
-    if !word.first()?.is_ascii_digit() {
+    if word.is_empty() {
         return None;
     }
-    u64::from_str_radix(str::from_utf8(word).ok()?, 10).ok()
+    let mut n: u64 = 0;
+    for c in word {
+        if !c.is_ascii_digit() {
+            return None;
+        }
+        n = n.checked_mul(10)?.checked_add(u64::from(*c - b'0'))?;
+    }
+    Some(n)
 }
 
 // The same of a size, which 64 bits hold too.

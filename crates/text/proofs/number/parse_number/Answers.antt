@@ -1,14 +1,23 @@
-use Rattle.std.proofs.Common.{◌≡◌, get_or, sym, ap, ◌∙◌, true, rules}
-use Rattle.std.specs.Char.{is_ascii_digit}
-use Rattle.text.proofs.NumberLaws.{no_text, parsed}
+use Rattle.std.proofs.Common.{◌∙◌, rules}
+use Rattle.text.proofs.NumberLaws.{refuse_byte, refuse_large, digit_more, digits_all}
 use Rattle.text.proofs.number.parse_number.Goals as goal
 
-pub returns-in_err-ok : goal.returns-in_err-ok
-returns-in_err-ok c = search (rules, no_text c.args.word.now)
+pub returns-then-not-is_ascii_digit : goal.returns-then-not-is_ascii_digit
+returns-then-not-is_ascii_digit c =
+    refuse_byte c.args.word.now c.loop-c.c-index c.loop-c-test.true c.if-not-is_ascii_digit.ensures.value c.loop-c.invariant.1
+
+pub returns-in_err-checked_mul : goal.returns-in_err-checked_mul
+returns-in_err-checked_mul c =
+    c.from_residual.ensures ∙ refuse_large c.args.word.now c.loop-c.n c.loop-c.c-index c.loop-c-test.true (search rules) c.loop-c.invariant.2
+
+pub returns-in_err-n : goal.returns-in_err-n
+returns-in_err-n c =
+    c.from_residual-in_err-n.ensures ∙ refuse_large c.args.word.now c.loop-c.n c.loop-c.c-index c.loop-c-test.true (search rules) c.loop-c.invariant.2
+
+pub loop-c-preserved : goal.loop-c-preserved
+loop-c-preserved c =
+    let more = digit_more c.args.word.now c.loop-c.n c.in_ok-n.n c.loop-c.c-index c.loop-c-test.true c.if-not-is_ascii_digit.ensures.value (search rules) (c.loop-c.invariant.1, c.loop-c.invariant.2) in
+    (search rules, more.0, more.1)
 
 pub returns : goal.returns
-returns c =
-    let text : c.in_ok-ok.field-0.now ≡ c.args.word.now = search rules in
-    let first : c.in_ok-first.field-0.now ≡ get_or c.args.word.now 0 0 = search rules in
-    let digit : true ≡ is_ascii_digit (get_or c.args.word.now 0 0) = sym c.if-not-is_ascii_digit.false ∙ (c.is_ascii_digit.ensures.value ∙ ap is_ascii_digit first) in
-    c.ok-2.ensures.value ∙ parsed c.args.word.now c.from_str_radix.result (rw text at c.from_str_radix.ensures.value) digit
+returns c = digits_all c.args.word.now c.loop-c.n c.loop-c.c-index c.loop-c-test.false (search rules) c.loop-c.invariant.0 (c.loop-c.invariant.1, c.loop-c.invariant.2)

@@ -77,7 +77,7 @@ fn push_shown<T: fmt::Display>(out: &mut Vec<u8>, value: &T) -> Result<(), Alloc
     write!(out, "{value}").map_err(|_| AllocError)
 }
 
-// What an answer has one or several of. Its text is pushed as it is, and not through a formatter, which takes the half again.
+// What a reply has one or several of. Words are pushed as they are: through a formatter a list of singles took half as long again.
 trait Pushed {
     ghost text: { Self → List ℕ };
 

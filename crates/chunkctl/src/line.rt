@@ -140,7 +140,7 @@ impl<R> Lines<R> {
 
 impl<R: BufRead> Lines<R> {
     // Reads the next line, and says how it was kept, or None at the end of the input. The line is the caller's, and this no
-    // Iterator, whose items would each own a line: one buffer serves all lines, so that a long one takes memory once.
+    // Iterator, whose items would each own a line: one buffer serves all lines, and grows once, to the longest.
     pub fn read_line(&mut self, line: &mut Vec<u8>) -> io::Result<Option<Result<(), Complaint>>>
         ensures { IfOk result (λ kept. IsSome kept → self.new.left < self.old.left) }
     {

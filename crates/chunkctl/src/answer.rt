@@ -77,7 +77,7 @@ fn push_shown<T: fmt::Display>(out: &mut Vec<u8>, value: &T) -> Result<(), Alloc
     write!(out, "{value}").map_err(|_| AllocError)
 }
 
-// What a reply has one or several of. Words are pushed as they are: through a formatter a list of singles took half as long again.
+// What a list has in it. Words are pushed as they are: through a formatter a list of singles took half as long again.
 trait Pushed {
     ghost text: { Self → List ℕ };
 
@@ -101,20 +101,6 @@ impl Pushed for Single {
     }
 }
 
-impl Pushed for Trouble {
-    ghost text = { trouble_text };
-
-    fn push(&self, _heap: Global, out: &mut Vec<u8>) -> Result<(), AllocError> {
-        match self {
-            Trouble::Refused(fault) => push_shown(out, fault),
-            Trouble::Error(complaint) => {
-                push_text(out, "error: ")?;
-                push_text(out, complaint.text())
-            }
-        }
-    }
-}
-
 // Values joined by commas, or - for none.
 fn push_list<T: Pushed>(heap: Global, out: &mut Vec<u8>, values: &[T]) -> Result<(), AllocError>
     ensures { OnOk result (out.new.items ≡ out.old.items ++ list_text T.Pushed.text values.now) }
@@ -128,6 +114,19 @@ fn push_list<T: Pushed>(heap: Global, out: &mut Vec<u8>, values: &[T]) -> Result
         value.push(heap, out)?;
     }
     Ok(())
+}
+
+// Not by Display: a complaint needs no memory but that of the reply, and no formatter.
+fn push_trouble(out: &mut Vec<u8>, trouble: &Trouble) -> Result<(), AllocError>
+    ensures { OnOk result (out.new.items ≡ out.old.items ++ trouble_text trouble.now) }
+{
+    match trouble {
+        Trouble::Refused(fault) => push_shown(out, fault),
+        Trouble::Error(complaint) => {
+            push_text(out, "error: ")?;
+            push_text(out, complaint.text())
+        }
+    }
 }
 
 // A number, or a word where there is none.
@@ -221,7 +220,7 @@ fn push_outcome(
             push_text(out, "ok")?;
             push_value(heap, out, answer, output)
         }
-        Err(trouble) => trouble.push(heap, out),
+        Err(trouble) => push_trouble(out, trouble),
     }
 }
 

@@ -6,7 +6,7 @@ use crate::list::FromWord;
 use std::alloc::{AllocError, Global};
 
 // The number that a word of digits writes, if 64 bits hold it. It goes digit by digit and ends at the first byte that shows that
-// the word is none: `from_str_radix` wants a `str`, whose test reads the whole word first, and takes half as long again or more.
+// the word is none: `from_str_radix` wants a `str`, whose test reads the whole word first.
 pub fn parse_number(word: &[u8]) -> Option<u64>
     ensures { result ≡ number_of word.now }
 {
